@@ -1,0 +1,5 @@
+pub mod Algebra
+pub mod Planes
+pub mod Shape
+pub mod Agree
+pub mod Encode

@@ -1,0 +1,5 @@
+pub mod Symbol
+pub mod Matrix
+pub mod Rows
+pub mod Codeword
+pub mod Laws

@@ -1,0 +1,47 @@
+-- How the types of this crate keep a matrix.
+use Rattle.std.specs.Prelude.{◌≡◌, ℕ, ◌+◌, ◌-◌, ◌<◌, ◌≤◌, List, [], ◌∷◌, length, map, take, drop, slice_index, slice_index_or, All}
+use Rattle.std.specs.List.Sorted.{IsStrictlyIncreasing}
+use Rattle.smallvec.specs.SmallVec.{SmallVec}
+use Rattle.sparse_rows.specs.Matrix.{Matrix, HasShape, IsCode}
+
+-- a row that is being built: its columns rise and lie below n
+pub record IsRising (n : ℕ) (row : List ℕ) : Type 0 where
+  pub rising : IsStrictlyIncreasing row
+  pub below : All (λ column. column < n) row
+
+-- a matrix that is being built: n - k rows, whatever they hold
+pub record IsBuilt (m : Matrix) : Type 0 where
+  pub some : 1 ≤ m.k
+  pub within : m.k ≤ m.n
+  pub most : m.n ≤ 65536
+  pub count : m.k + length m.rows ≡ m.n
+  pub rows : All (IsRising m.n) m.rows
+
+-- the columns of each row that is kept by itself
+abbrev pub lists_of : List (SmallVec ℕ) → List (List ℕ)
+lists_of rows = map (λ (row : SmallVec ℕ). row.items) rows
+
+-- the matrix of such rows
+abbrev pub matrix_of_rows : ℕ → ℕ → List (SmallVec ℕ) → Matrix
+matrix_of_rows k n rows = record { k = k; n = n; rows = lists_of rows }
+
+-- the rows that lie one after the other in one list of columns, each from its start to the next start
+abbrev pub rows_of : List ℕ → List ℕ → List (List ℕ)
+rows_of [] columns = []
+rows_of (start ∷ []) columns = []
+rows_of (start ∷ next ∷ starts) columns = take (next - start) (drop start columns) ∷ rows_of (next ∷ starts) columns
+
+-- the starts rise, and the last of them is the end of the columns
+pub record AreStarts (starts columns : List ℕ) : Type 0 where
+  pub some : 0 < length starts
+  pub rising : (i : ℕ) → i + 1 < length starts → slice_index starts i ≤ slice_index starts (i + 1)
+  pub last : slice_index starts (length starts - 1) ≡ length columns
+
+-- the matrix of rows that lie one after the other
+abbrev pub matrix_of_starts : ℕ → ℕ → List ℕ → List ℕ → Matrix
+matrix_of_starts k n starts columns = record { k = k; n = n; rows = rows_of starts columns }
+
+-- rows that lie one after the other and make a code
+pub record IsLaidOut (k n : ℕ) (starts columns : List ℕ) : Type 0 where
+  pub starts_rise : AreStarts starts columns
+  pub code : IsCode (matrix_of_starts k n starts columns)
