@@ -3,3 +3,5 @@ pub mod Planes
 pub mod Shape
 pub mod Agree
 pub mod Encode
+pub mod Rising
+pub mod Built
