@@ -3,3 +3,4 @@ pub mod Planes
 pub mod Shape
 pub mod Agree
 pub mod Encode
+pub mod Flat
