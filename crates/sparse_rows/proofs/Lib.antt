@@ -1,7 +1,9 @@
 pub mod Algebra
 pub mod Planes
+pub mod Symbols
 pub mod Shape
 pub mod Agree
 pub mod Encode
 pub mod Rising
 pub mod Built
+pub mod Flat

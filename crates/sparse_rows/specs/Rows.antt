@@ -31,9 +31,10 @@ rows_of [] columns = []
 rows_of (start ∷ []) columns = []
 rows_of (start ∷ next ∷ starts) columns = take (next - start) (drop start columns) ∷ rows_of (next ∷ starts) columns
 
--- the starts rise, and the last of them is the end of the columns
+-- the starts rise from 0, and the last of them is the end of the columns
 pub record AreStarts (starts columns : List ℕ) : Type 0 where
   pub some : 0 < length starts
+  pub first : slice_index starts 0 ≡ 0
   pub rising : (i : ℕ) → i + 1 < length starts → slice_index starts i ≤ slice_index starts (i + 1)
   pub last : slice_index starts (length starts - 1) ≡ length columns
 

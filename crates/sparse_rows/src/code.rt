@@ -97,8 +97,7 @@ impl Code {
         requires { r < self.now.n - self.now.k }
         ensures { result ≡ length (row_of self.now r) }
     {
-        let starts = self.starts.as_slice();
-        (starts[r as usize + 1] - starts[r as usize]) as u32
+        self.row(r).len() as u32
     }
 
     /// The i-th column of row r, counted from 0, by one step.
@@ -109,8 +108,17 @@ impl Code {
         ensures cost { steps.new ≡ steps.old + 1 }
     {
         steps.tick();
+        self.row(r)[i as usize]
+    }
+
+    // The columns of row r.
+    fn row(&self, r: u32) -> &[u32]
+        requires { r < self.now.n - self.now.k }
+        ensures value { result.now ≡ row_of self.now r }
+        ensures short { length result.now ≤ 65536 }
+    {
         let starts = self.starts.as_slice();
         let columns = self.columns.as_slice();
-        columns[starts[r as usize] + i as usize]
+        &columns[starts[r as usize]..starts[r as usize + 1]]
     }
 }
