@@ -1,0 +1,57 @@
+// The grid, source symbol by source symbol.
+ghost use Rattle.std.specs.Prelude.{◌≡◌, ◌≤◌, IfOk};
+ghost use Rattle.parity_2d.specs.Grid.{grid_matrix, size_2d};
+
+use fec_base::NoMemory;
+use sparse_rows::{Code, RowsBuilder};
+use std::alloc::Global;
+
+/// How many encoding symbols `k` source symbols in a grid of this width have: the source symbols,
+/// one repair symbol for each row of the grid (the last row may be in part), and one for each
+/// column that holds a symbol.
+pub fn size_2d(k: u32, width: u32) -> u64
+    requires some { 1 ≤ k }
+    requires wide { 1 ≤ width }
+    ensures { result ≡ size_2d k width }
+{
+    k as u64 + k.div_ceil(width) as u64 + width.min(k) as u64
+}
+
+/// The code of `k` source symbols in a grid of this width. Row i of the matrix sums row i of the
+/// grid and its repair symbol; the rows for the grid's columns follow. It takes one pass over the
+/// matrix's entries.
+pub fn parity_2d(alloc: Global, k: u32, width: u32) -> Result<Code, NoMemory>
+    requires some { 1 ≤ k }
+    requires wide { 1 ≤ width }
+    requires fits { size_2d k width ≤ 65536 }
+    ensures { IfOk result (λ code. code ≡ grid_matrix k width) }
+{
+    let grid_rows = k.div_ceil(width);
+    let parities = grid_rows + width.min(k);
+    let mut rows = RowsBuilder::new(alloc, k, k + parities)?;
+    add_sources(&mut rows, k, width, grid_rows)?;
+    add_parities(&mut rows, k, parities)?;
+    Code::from_builder(alloc, rows)
+}
+
+// Puts each source symbol into its row and its column of the grid.
+fn add_sources(
+    rows: &mut RowsBuilder,
+    k: u32,
+    width: u32,
+    grid_rows: u32,
+) -> Result<(), NoMemory> {
+    for c in 0..k {
+        rows.insert(c / width, c)?;
+        rows.insert(grid_rows + c % width, c)?;
+    }
+    Ok(())
+}
+
+// Puts each repair symbol into its row of the matrix.
+fn add_parities(rows: &mut RowsBuilder, k: u32, parities: u32) -> Result<(), NoMemory> {
+    for r in 0..parities {
+        rows.insert(r, k + r)?;
+    }
+    Ok(())
+}
