@@ -1,6 +1,8 @@
 // The grid, source symbol by source symbol.
-ghost use Rattle.std.specs.Prelude.{◌≡◌, ◌≤◌, IfOk};
+ghost use Rattle.std.specs.Prelude.{◌≡◌, ◌≤◌, ◌<◌, ◌+◌, min, replicate, [], length, All, IfOk, OnOk};
+ghost use Rattle.std.specs.Int.{div_ceil};
 ghost use Rattle.parity_2d.specs.Grid.{grid_matrix, size_2d};
+ghost use Rattle.parity_2d.specs.Filling.{source_rows, with_parities};
 
 use fec_base::NoMemory;
 use sparse_rows::{Code, RowsBuilder};
@@ -35,12 +37,13 @@ pub fn parity_2d(alloc: Global, k: u32, width: u32) -> Result<Code, NoMemory>
 }
 
 // Puts each source symbol into its row and its column of the grid.
-fn add_sources(
-    rows: &mut RowsBuilder,
-    k: u32,
-    width: u32,
-    grid_rows: u32,
-) -> Result<(), NoMemory> {
+fn add_sources(rows: &mut RowsBuilder, k: u32, width: u32, grid_rows: u32) -> Result<(), NoMemory>
+    requires wide { 1 ≤ width }
+    requires fits { size_2d k width ≤ 65536 }
+    requires grid { grid_rows ≡ div_ceil k width }
+    requires empty { rows.old ≡ record { k = k; n = size_2d k width; rows = replicate (grid_rows + min width k) [] } }
+    ensures { OnOk result (rows.new ≡ record rows.old { rows = source_rows k width }) }
+{
     for c in 0..k {
         rows.insert(c / width, c)?;
         rows.insert(grid_rows + c % width, c)?;
@@ -49,7 +52,14 @@ fn add_sources(
 }
 
 // Puts each repair symbol into its row of the matrix.
-fn add_parities(rows: &mut RowsBuilder, k: u32, parities: u32) -> Result<(), NoMemory> {
+fn add_parities(rows: &mut RowsBuilder, k: u32, parities: u32) -> Result<(), NoMemory>
+    requires k { rows.old.k ≡ k }
+    requires n { rows.old.n ≡ k + parities }
+    requires fits { k + parities ≤ 65536 }
+    requires count { length rows.old.rows ≡ parities }
+    requires sources { All (All (λ c. c < k)) rows.old.rows }
+    ensures { OnOk result (rows.new ≡ with_parities rows.old) }
+{
     for r in 0..parities {
         rows.insert(r, k + r)?;
     }
