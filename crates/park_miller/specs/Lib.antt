@@ -1,0 +1,3 @@
+pub mod Generator
+pub mod Shuffle
+pub mod LimitedDraws
