@@ -7,8 +7,8 @@ use Rattle.std.proofs.lemmas.List.Elements.{All-from_get_or}
 use Rattle.std.proofs.lemmas.List.Kept.{AllPairs-from_increasing}
 use Rattle.sparse_rows.specs.Symbol.{IsSymbol, xor, zero_symbol, xor_sum, symbols_of}
 use Rattle.sparse_rows.specs.Matrix.{Matrix, IsRow, HasShape, IsCode, row_of}
-use Rattle.sparse_rows.specs.Codeword.{symbol_at, IsEncoded}
-use Rattle.sparse_rows.proofs.Planes.{HasLength, IsAssignment, symbol_at_is, length_sum}
+use Rattle.sparse_rows.specs.Codeword.{symbol_at, IsAssignment, IsEncoded}
+use Rattle.sparse_rows.proofs.Planes.{HasLength, symbol_at_is, length_sum}
 use Rattle.sparse_rows.proofs.Symbols.{length_symbols, symbol_is, symbol_room, symbols_are, xor_sum_push, symbol_xor_zero, piece}
 
 module _ (k last : ℕ) (row : List ℕ) (is : IsRow k last row) where

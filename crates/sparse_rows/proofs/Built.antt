@@ -1,5 +1,5 @@
 -- A matrix that is being built, with no column yet and with one column more.
-use Rattle.std.proofs.Common.{Result, Ok, Err, OnOk, OnErr, Bool, ◌≡◌, ℕ, zero, suc, ◌+◌, ◌-◌, ◌<◌, ◌≤◌, List, [], ◌∷◌, length, get_or, set, replicate, map, All, refl, sym, ap, ◌∙◌, subst, arith, length-set}
+use Rattle.std.proofs.Common.{Result, Ok, Err, OnOk, OnErr, Bool, ◌≡◌, ℕ, zero, suc, ◌+◌, ◌-◌, ◌<◌, ◌≤◌, List, [], ◌∷◌, length, get_or, set, zero-le, replicate, map, All, refl, sym, ap, ◌∙◌, subst, arith, length-set}
 use Rattle.std.proofs.lemmas.List.{length-replicate, length-map, map-set, get_or-map}
 use Rattle.std.proofs.lemmas.List.Elements.{All-replicate, All-nil, All-set, All-get_or}
 use Rattle.fec_base.specs.declared.outside.NoMemory.{NoMemory}
@@ -7,6 +7,7 @@ use Rattle.smallvec.specs.SmallVec.{SmallVec}
 use Rattle.sparse_rows.specs.Matrix.{Matrix, row_of, with_column, with_entry}
 use Rattle.sparse_rows.specs.Rows.{IsRising, IsBuilt, lists_of, matrix_of_rows}
 use Rattle.sparse_rows.proofs.Rising.{with_column_rises}
+use Rattle.sparse_rows.proofs.Flat.{rising_above}
 
 -- a row with no column, and some capacity
 abbrev pub empty_row : ℕ → SmallVec ℕ
@@ -32,7 +33,7 @@ built_empty k n rows is some within most = record {
 pub empty_is : (k n : ℕ) (rows : List (SmallVec ℕ)) → rows ≡ replicate (n - k) (empty_row 8) → matrix_of_rows k n rows ≡ record { k = k; n = n; rows = replicate (n - k) [] }
 empty_is k n rows is = ap (λ (lists : List (List ℕ)). record { k = k; n = n; rows = lists }) (ap lists_of is ∙ lists_of_empty (n - k) 8)
 
-module _ (k n : ℕ) (rows : List (SmallVec ℕ)) (built : IsBuilt (matrix_of_rows k n rows)) (value : Matrix) (is : matrix_of_rows k n rows ≡ value) (r c : ℕ) (inside : r < value.n - value.k) (fits : c < value.n) where
+module _ (k n : ℕ) (rows : List (SmallVec ℕ)) (built : IsBuilt (matrix_of_rows k n rows)) (value : Matrix) (is : matrix_of_rows k n rows ≡ value) (r : ℕ) (inside : r < value.n - value.k) where
   pub row_inside : r < length rows
   row_inside = omega (arith, built.count, length-map rows (λ (row : SmallVec ℕ). row.items), ap (λ m. m.n - m.k) is)
 
@@ -43,7 +44,14 @@ module _ (k n : ℕ) (rows : List (SmallVec ℕ)) (built : IsBuilt (matrix_of_ro
     pub row_rises : IsRising n row.items
     row_rises = subst (IsRising n) row_is (built.rows r [] (rw length-map row_inside))
 
-    module _ (new : SmallVec ℕ) (result : Result Bool NoMemory) (ok : OnOk result (new.items ≡ with_column c row.items)) (err : OnErr result (new ≡ row)) where
+    -- the row as the value tells it
+    pub value_row : row.items ≡ row_of value r
+    value_row = sym row_is ∙ ap (λ m. row_of m r) is
+
+    pub value_rises : IsRising value.n row.items
+    value_rises = subst (λ (m : Matrix). IsRising m.n row.items) is row_rises
+
+    module _ (c : ℕ) (fits : c < value.n) (new : SmallVec ℕ) (result : Result Bool NoMemory) (ok : OnOk result (new.items ≡ with_column c row.items)) (err : OnErr result (new ≡ row)) where
       new_rises : IsRising n new.items
       new_rises = by_result result ok err
         where
@@ -68,3 +76,10 @@ module _ (k n : ℕ) (rows : List (SmallVec ℕ)) (built : IsBuilt (matrix_of_ro
               ap (λ (lists : List (List ℕ)). record { k = k; n = n; rows = lists }) (map-set (λ (one : SmallVec ℕ). one.items) rows r new ∙ ap (set (lists_of rows) r) (e ∙ ap (with_column c) (sym row_is)))
               ∙ ap (λ m. with_entry m r c) is
           by_result (Err refused) e = tt
+
+-- a row has at most n columns
+pub short_row : (n : ℕ) (row : List ℕ) → IsRising n row → length row ≤ n
+short_row n [] h = zero-le
+short_row n (x ∷ row) h =
+    let last : length row ≤ get_or (x ∷ row) (length row) 0 = rising_above (x ∷ row) h.rising (length row) (omega arith) in
+    let low : get_or (x ∷ row) (length row) 0 < n = h.below (length row) 0 (omega arith) in omega arith

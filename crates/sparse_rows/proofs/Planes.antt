@@ -8,7 +8,7 @@ use Rattle.std.proofs.lemmas.List.Elements.{All-nil, All-cons, All-head, All-tai
 use Rattle.std.proofs.lemmas.List.Sums.{sum_by-cons}
 use Rattle.std.proofs.lemmas.Bool.{cases_lt}
 use Rattle.sparse_rows.specs.Symbol.{IsSymbol, xor, zero_symbol, xor_sum}
-use Rattle.sparse_rows.specs.Codeword.{symbol_at, SumsToZero}
+use Rattle.sparse_rows.specs.Codeword.{symbol_at, SumsToZero, IsAssignment}
 use Rattle.sparse_rows.proofs.Algebra.{XorLaws, total}
 
 pub byte_laws : XorLaws ℕ 0 bit_xor
@@ -38,10 +38,6 @@ byte_zero (suc len) (suc j) = byte_zero len j
 pub length_zero : (len : ℕ) → length (zero_symbol len) ≡ len
 length_zero zero = refl
 length_zero (suc len) = ap suc (length_zero len)
-
--- each column has a symbol
-abbrev pub IsAssignment : ℕ → (ℕ → List ℕ) → Type 0
-IsAssignment len x = (column : ℕ) → IsSymbol len (x column)
 
 -- each column has len bytes
 abbrev pub HasLength : ℕ → (ℕ → List ℕ) → Type 0

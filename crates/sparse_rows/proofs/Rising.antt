@@ -1,9 +1,10 @@
 -- Rows whose columns rise, and a row with one column more.
-use Rattle.std.proofs.Common.{Result, Ok, Err, MatchResult, IfErr, ◌≡◌, ℕ, zero, suc, ◌+◌, ◌<◌, ◌≤◌, Bool, true, false, not, cond, ltb, lt-ltb, le-ltb, ltb-true, eqb, eq-eqb, ne_eqb, ◌||◌, ◌-◌, ⊎_elim, eq-or-lt_of_le, List, [], ◌∷◌, ◌++◌, length, get_or, take, drop, All, refl, sym, ap, ap₂, ◌∙◌, arith, add-one, suc-add, suc-le-suc, le_of_suc-le-suc, take-append-drop, drop-cons, append-nil, length-take, length-drop}
+use Rattle.std.proofs.Common.{IfOk, is_ok, inl, inr, ◌⊎◌, count_by, zero-le, Result, Ok, Err, MatchResult, IfErr, ◌≡◌, ℕ, zero, suc, ◌+◌, ◌<◌, ◌≤◌, Bool, true, false, not, cond, ltb, lt-ltb, le-ltb, ltb-true, eqb, eq-eqb, ne_eqb, ◌||◌, ◌-◌, ⊎_elim, eq-or-lt_of_le, List, [], ◌∷◌, ◌++◌, length, get_or, take, drop, All, refl, sym, ap, ap₂, ◌∙◌, arith, add-one, suc-add, suc-le-suc, le_of_suc-le-suc, take-append-drop, drop-cons, append-nil, length-take, length-drop}
 use Rattle.std.specs.List.{filter, insert, list_any}
 use Rattle.std.specs.List.Sorted.{IsStrictlyIncreasing}
 use Rattle.std.proofs.lemmas.List.{get_or-take, get_or-drop}
 use Rattle.std.proofs.lemmas.List.Elements.{All-head, All-tail, All-cons, All-append, All-filter, All-from_get_or, filter-append, filter_passes}
+use Rattle.std.proofs.lemmas.List.Sums.{sum_by-cons}
 use Rattle.std.proofs.lemmas.List.Kept.{IsStrictlyIncreasing-filter, AllPairs-from_increasing}
 use Rattle.sparse_rows.specs.Matrix.{with_column, has_column}
 use Rattle.sparse_rows.specs.Rows.{IsRising}
@@ -148,3 +149,40 @@ not_found_below (Err i) c row F h = below_place c i row h
 pub not_found_above : (r : Result ℕ ℕ) (c : ℕ) (row : List ℕ) (F : ℕ → Type 0) → MatchResult r F (IsBetween c row) → IfErr r (λ i. Above c (drop i row))
 not_found_above (Ok i) c row F h = tt
 not_found_above (Err i) c row F h = above_place c i row h
+
+-- whether a search found the column is whether the row has it
+pub found_is : (r : Result ℕ ℕ) (c : ℕ) (row : List ℕ) → IfOk r (λ i. (i < length row) × (get_or row i 0 ≡ c)) → IfErr r (λ i. Below c (take i row)) → IfErr r (λ i. Above c (drop i row)) → is_ok r ≡ has_column c row
+found_is (Ok i) c row held below above = sym (has_column_held c i row held.0 held.1)
+found_is (Err i) c row held below above = sym (has_column_between c i row below above)
+
+-- how many columns lie below c, where those do that stand before a place, and no others
+count_before : (c i : ℕ) (row : List ℕ) → i ≤ length row → Below c (take i row) → All (λ x. c ≤ x) (drop i row) → count_by (λ x. ltb x c) row ≡ i
+count_before c zero [] le below above = refl
+count_before c zero (x ∷ row) le below above =
+    rw (sum_by-cons (λ y. cond (ltb y c) 1 0) x row, le-ltb x c (All-head (λ y. c ≤ y) x row above)) (ap (λ n. 0 + n) (count_before c zero row zero-le (λ j d lt. absurd (omega (arith, lt))) (All-tail (λ y. c ≤ y) x row above)))
+count_before c (suc i) [] le below above = absurd (omega arith)
+count_before c (suc i) (x ∷ row) le below above =
+    let rest : count_by (λ y. ltb y c) row ≡ i = count_before c i row (omega arith) (All-tail (λ y. y < c) x (take i row) below) above in
+    rw (sum_by-cons (λ y. cond (ltb y c) 1 0) x row, lt-ltb x c (All-head (λ y. y < c) x (take i row) below)) (omega (arith, rest))
+
+-- the place of a column counts the lower ones
+pub place_counts : (r : Result ℕ ℕ) (c i : ℕ) (row : List ℕ) → IsStrictlyIncreasing row → IfOk r (λ j. (j < length row) × (get_or row j 0 ≡ c)) → IfErr r (λ j. j ≤ length row)
+    → IfErr r (λ j. Below c (take j row)) → IfErr r (λ j. Above c (drop j row)) → (r ≡ Ok i) ⊎ (r ≡ Err i) → (i ≤ length row) × (i ≡ count_by (λ x. ltb x c) row)
+place_counts (Ok j) c i row rising held bound below above (inl e) =
+    let j_is : j ≡ i = cc in
+    let lt : i < length row = rw j_is at held.0 in
+    let found : get_or row i 0 ≡ c = rw j_is at held.1 in
+    let low : Below c (take i row) = rw found at (before_place row i rising lt) in
+    let high : All (λ x. c ≤ x) (drop i row) = All-from_get_or (λ x. c ≤ x) (drop i row) 0
+        (λ q inside. let room : i + q < length row = omega (arith, inside, length-drop i row) in
+            let h : get_or row i 0 ≤ get_or row (i + q) 0 = rising_places row rising i (i + q) (omega arith) room in
+            rw (get_or-drop i row q 0) (omega (arith, found))) in
+    (omega arith, sym (count_before c i row (omega arith) low high))
+place_counts (Ok j) c i row rising held bound below above (inr e) = absurd (cc)
+place_counts (Err j) c i row rising held bound below above (inl e) = absurd (cc)
+place_counts (Err j) c i row rising held bound below above (inr e) =
+    let j_is : j ≡ i = cc in
+    let le : i ≤ length row = rw j_is at bound in
+    let low : Below c (take i row) = rw j_is at below in
+    let high : Above c (drop i row) = rw j_is at above in
+    (le, sym (count_before c i row le low (λ q d lt. let h : c < get_or (drop i row) q d = high q d lt in omega arith)))

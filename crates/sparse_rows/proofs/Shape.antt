@@ -3,13 +3,10 @@ use Rattle.std.proofs.Common.{zero-le, le_of_eq, le_of_suc-le-suc, eq-or-lt_of_l
 use Rattle.std.specs.List.Sorted.{IsStrictlyIncreasing}
 use Rattle.std.proofs.lemmas.List.Elements.{All-tail}
 use Rattle.sparse_rows.specs.Matrix.{Matrix, HasShape}
-
--- the columns of the row that fail a test
-abbrev pub outside : (ℕ → Bool) → List ℕ → List ℕ
-outside known row = filter (λ column. not (known column)) row
+use Rattle.sparse_rows.specs.Closure.{Set, outside}
 
 -- the columns below a bound
-abbrev pub below : ℕ → ℕ → Bool
+abbrev pub below : ℕ → Set
 below n column = ltb column n
 
 pub rising_tail : (x : ℕ) (xs : List ℕ) → IsStrictlyIncreasing (x ∷ xs) → IsStrictlyIncreasing xs

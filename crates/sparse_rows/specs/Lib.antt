@@ -2,4 +2,5 @@ pub mod Symbol
 pub mod Matrix
 pub mod Rows
 pub mod Codeword
+pub mod Closure
 pub mod Laws

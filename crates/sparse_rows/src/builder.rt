@@ -1,7 +1,8 @@
 // Rows that gain their columns one by one.
-ghost use Rattle.std.specs.Prelude.{◌≡◌, ◌<◌, ◌≤◌, ◌-◌, not, replicate, [], length, take, drop, slice_index, All, IfOk, IfErr, OnOk, OnErr};
+ghost use Rattle.std.specs.Prelude.{◌≡◌, ◌<◌, ◌≤◌, ◌-◌, not, replicate, [], length, count_by, nat_lt, take, drop, slice_index, All, IfOk, IfErr, OnOk, OnErr};
 ghost use Rattle.std.specs.List.Sorted.{IsStrictlyIncreasing};
-ghost use Rattle.sparse_rows.specs.Matrix.{has_column, has_entry, with_column, with_entry};
+ghost use Rattle.sparse_rows.specs.Rows.{IsRising};
+ghost use Rattle.sparse_rows.specs.Matrix.{row_of, has_column, has_entry, with_column, with_entry};
 
 use fec_base::NoMemory;
 use smallvec::SmallVec;
@@ -51,6 +52,34 @@ impl RowsBuilder {
         ensures err { OnErr result (self.new ≡ self.old) }
     {
         insert_column(&mut self.rows[r as usize], c)
+    }
+
+    /// Whether row r has column c.
+    pub fn has(&self, r: u32, c: u32) -> bool
+        requires { r < self.now.n - self.now.k }
+        ensures { result ≡ has_entry self.now r c }
+    {
+        place_of(self.row(r), c).is_ok()
+    }
+
+    /// How many source symbols row r sums: the number of its columns below k.
+    pub fn source_degree(&self, r: u32) -> u32
+        requires { r < self.now.n - self.now.k }
+        ensures { result ≡ count_by (λ column. nat_lt column self.now.k) (row_of self.now r) }
+    {
+        match place_of(self.row(r), self.k) {
+            Ok(place) | Err(place) => place as u32,
+        }
+    }
+
+    // The columns of row r.
+    fn row(&self, r: u32) -> &[u32]
+        requires { r < self.now.n - self.now.k }
+        ensures value { result.now ≡ row_of self.now r }
+        ensures rising { IsRising self.now.n result.now }
+        ensures most { self.now.n ≤ 65536 }
+    {
+        self.rows[r as usize].as_slice()
     }
 }
 
