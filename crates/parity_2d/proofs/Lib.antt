@@ -1,5 +1,6 @@
 pub mod Classes
+pub mod Rows
 pub mod Places
 pub mod Sources
-pub mod Shape
 pub mod Parities
+pub mod Shape

@@ -1,65 +1,18 @@
 -- The finished matrix, and its shape.
-use Rattle.std.proofs.Common.{◌≡◌, ℕ, ◌+◌, ◌-◌, ◌*◌, ◌/◌, ◌%◌, ◌<◌, ◌≤◌, min, cond, eq-eqb, ◌==◌, Bool, ⊎_elim, List, [], ◌∷◌, ◌++◌, filter, map, length, get_or, take, drop, All, refl, sym, ap, ap₂, ◌∙◌, subst, arith, append_assoc, length-append}
+use Rattle.std.proofs.Common.{◌≡◌, ℕ, ◌+◌, ◌-◌, ◌*◌, ◌/◌, ◌%◌, ◌<◌, ◌≤◌, min, ⊎_elim, List, [], ◌∷◌, ◌++◌, map, length, get_or, All, sym, ap, ◌∙◌, subst, arith, length-append}
 use Rattle.std.specs.Int.{div_ceil}
-use Rattle.std.specs.List.{range_with_len, Any}
-use Rattle.std.specs.List.Sorted.{IsStrictlyIncreasing}
+use Rattle.std.specs.List.{range_with_len}
 use Rattle.std.proofs.Math.Nat.{mul-div_cancel, mod-eq_of_lt}
 use Rattle.std.proofs.lemmas.Bool.{cases_lt}
-use Rattle.std.proofs.lemmas.List.{get_or_append_left, get_or-append_right, get_or_at, take-append-drop, drop_more}
-use Rattle.std.proofs.lemmas.List.Elements.{All-nil, All-weaker, All-append, All-push, All-map, Contains-push, filter-append}
-use Rattle.std.proofs.lemmas.List.FromFn.{length-range_with_len, get_or-range_with_len, length-map-range_with_len, get_or-map-range_with_len, fill_by_all}
-use Rattle.std.proofs.lemmas.List.Kept.{IsStrictlyIncreasing-filter}
+use Rattle.std.proofs.lemmas.List.{get_or_append_left, get_or-append_right}
+use Rattle.std.proofs.lemmas.List.Elements.{All-append, All-map}
+use Rattle.std.proofs.lemmas.List.FromFn.{length-map-range_with_len, get_or-map-range_with_len, fill_by_all}
 use Rattle.sparse_rows.specs.Matrix.{Matrix, row_of, IsRow, HasShape}
-use Rattle.sparse_rows.proofs.Rising.{rising_between}
 use Rattle.parity_2d.specs.Grid.{size_2d, grid_row, grid_column, grid_matrix}
 use Rattle.parity_2d.specs.Filling.{source_rows, with_parities}
-use Rattle.parity_2d.proofs.Classes.{class, class_below}
+use Rattle.parity_2d.proofs.Classes.{class_below}
+use Rattle.parity_2d.proofs.Rows.{row_is}
 use Rattle.parity_2d.proofs.Places.{row_begins}
-
-range_rises : (k : ℕ) → IsStrictlyIncreasing (range_with_len 0 k)
-range_rises k i lt =
-    let next : i + 1 < k = omega (arith, lt, length-range_with_len 0 k) in
-    omega (arith, get_or-range_with_len 0 k i 0 (omega arith), get_or-range_with_len 0 k (i + 1) 0 next)
-
--- a class with a member, and a last column behind it, is a row
-row_is : (class_of : ℕ → ℕ) (k i member last : ℕ) → member < k → class_of member ≡ i → k ≤ last → IsRow k last (class class_of k i ++ last ∷ [])
-row_is class_of k i member last inside same le = record {
-  rising = rising_between last row [] (IsStrictlyIncreasing-filter own symbols (range_rises k)) (λ j lt. absurd (omega arith)) below (All-nil (λ x. last < x));
-  holds = Contains-push row last;
-  within = All-push (λ x. x ≤ last) row last (All-weaker (λ x. x < last) (λ x. x ≤ last) (λ x lt. omega arith) row below) (omega arith);
-  source = subst (Any (λ x. x < k)) (sym parts) (length front, member, omega (arith, length-append front (member ∷ back ++ last ∷ [])), get_or_at front member (back ++ last ∷ []) member (length front) refl, inside);
-}
-  where
-    own : ℕ → Bool
-    own x = class_of x == i
-
-    symbols : List ℕ
-    symbols = range_with_len 0 k
-
-    row : List ℕ
-    row = class class_of k i
-
-    below : All (λ x. x < last) row
-    below = All-weaker (λ x. x < k) (λ x. x < last) (λ x lt. omega arith) row (class_below class_of k i)
-
-    front : List ℕ
-    front = filter own (take member symbols)
-
-    back : List ℕ
-    back = filter own (drop (member + 1) symbols)
-
-    at_member : get_or symbols member 0 ≡ member
-    at_member = omega (arith, get_or-range_with_len 0 k member 0 inside)
-
-    from_member : drop member symbols ≡ member ∷ drop (member + 1) symbols
-    from_member = drop_more symbols member 0 (omega (arith, length-range_with_len 0 k)) ∙ ap (λ x. x ∷ drop (member + 1) symbols) at_member
-
-    kept : filter own (drop member symbols) ≡ member ∷ back
-    kept = ap (filter own) from_member ∙ ap (λ b. cond b (member ∷ back) back) (eq-eqb (class_of member) i same)
-
-    parts : row ++ last ∷ [] ≡ front ++ (member ∷ back ++ last ∷ [])
-    parts = ap (λ xs. xs ++ last ∷ []) (ap (filter own) (sym (take-append-drop member symbols)) ∙ filter-append own (take member symbols) (drop member symbols) ∙ ap (λ xs. front ++ xs) kept)
-        ∙ append_assoc front (member ∷ back) (last ∷ [])
 
 -- two lists one after the other, each made from a function of the place
 abbrev joined : (ℕ → List ℕ) → (ℕ → List ℕ) → ℕ → ℕ → List (List ℕ)
@@ -103,8 +56,12 @@ module _ (k w : ℕ) where
       (All-map (All (λ c. c < k)) (grid_row k w) (range_with_len 0 a) (λ i d lt. class_below (λ x. x / w) k _))
       (All-map (All (λ c. c < k)) (grid_column k w) (range_with_len 0 b) (λ i d lt. class_below (λ x. x % w) k _))
 
-  -- with their parities they are the rows of the matrix
-  finished : with_parities (record { k = k; n = size_2d k w; rows = source_rows k w }) ≡ grid_matrix k w
+  -- the matrix of n columns with these rows
+  abbrev of_size : ℕ → Matrix
+  of_size n = record { k = k; n = n; rows = source_rows k w }
+
+  -- with their parities they are the rows of the grid's matrix
+  finished : with_parities (of_size (size_2d k w)) ≡ grid_matrix k w
   finished = ap (λ (rows : List (List ℕ)). record { k = k; n = size_2d k w; rows = rows })
       (sym (fill_by_all with_own (joined row column a b) (length (source_rows k w)) [] (length_joined row column a b ∙ sym length_source_rows)
       (λ r lt. let inside : r < a + b = omega (arith, length_source_rows) in ⊎_elim (λ (l : r < a). left r l) (λ (le : a ≤ r). right r le inside) (cases_lt r a))))
@@ -121,12 +78,10 @@ module _ (k w : ℕ) where
           joined_right row column a b r le lt ∙ ap (λ c. grid_column k w (r - a) ++ c ∷ []) place
           ∙ ap (λ xs. xs ++ (k + r) ∷ []) (sym (joined_right (grid_row k w) (grid_column k w) a b r le lt))
 
-  -- what the three steps make
-  pub made : (begun filled whole : Matrix) → begun.k ≡ k → begun.n ≡ size_2d k w → filled ≡ record begun { rows = source_rows k w } → whole ≡ with_parities filled → whole ≡ grid_matrix k w
-  made begun filled whole same_k same_n sources parities = parities ∙ ap with_parities (sources ∙ sized) ∙ finished
-    where
-      sized : record begun { rows = source_rows k w } ≡ record { k = k; n = size_2d k w; rows = source_rows k w }
-      sized = ap₂ (λ (i j : ℕ). record { k = i; n = j; rows = source_rows k w }) same_k same_n
+  -- what a builder without columns becomes by the source symbols and then the parities
+  pub made : {n : ℕ} {rows : List (List ℕ)} {begun filled whole : Matrix} → begun ≡ record { k = k; n = n; rows = rows } → n ≡ size_2d k w
+      → filled ≡ record begun { rows = source_rows k w } → whole ≡ with_parities filled → whole ≡ grid_matrix k w
+  made begins sized sources parities = parities ∙ ap with_parities (sources ∙ ap (λ (m : Matrix). record m { rows = source_rows k w }) begins ∙ ap of_size sized) ∙ finished
 
   -- row i of the matrix ends with column k + i, and has a source symbol
   pub grid_has_shape : 1 ≤ w → HasShape (grid_matrix k w)

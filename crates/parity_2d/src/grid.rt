@@ -21,7 +21,7 @@ pub fn size_2d(k: u32, width: u32) -> u64
 
 /// The code of `k` source symbols in a grid of this width. Row i of the matrix sums row i of the
 /// grid and its repair symbol; the rows for the grid's columns follow. It takes one pass over the
-/// matrix's entries.
+/// matrix's entries. `NoMemory` where the allocator has no room for the rows.
 pub fn parity_2d(alloc: Global, k: u32, width: u32) -> Result<Code, NoMemory>
     requires some { 1 ≤ k }
     requires wide { 1 ≤ width }
@@ -41,7 +41,9 @@ fn add_sources(rows: &mut RowsBuilder, k: u32, width: u32, grid_rows: u32) -> Re
     requires wide { 1 ≤ width }
     requires fits { size_2d k width ≤ 65536 }
     requires grid { grid_rows ≡ div_ceil k width }
-    requires empty { rows.old ≡ record { k = k; n = size_2d k width; rows = replicate (grid_rows + min width k) [] } }
+    requires k { rows.old.k ≡ k }
+    requires n { rows.old.n ≡ size_2d k width }
+    requires empty { rows.old.rows ≡ replicate (grid_rows + min width k) [] }
     ensures { OnOk result (rows.new ≡ record rows.old { rows = source_rows k width }) }
 {
     for c in 0..k {

@@ -7,3 +7,6 @@
 mod grid;
 
 pub use grid::{parity_2d, size_2d};
+
+#[cfg(test)]
+mod tests;

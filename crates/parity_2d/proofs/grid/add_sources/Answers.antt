@@ -5,7 +5,7 @@ use Rattle.parity_2d.proofs.grid.add_sources.Goals as goal
 
 pub loop-c-init : goal.loop-c-init
 loop-c-init c = ap (λ (rows : List (List ℕ)). record c.args.rows.now { rows = rows })
-    (ap (λ m. m.rows) c.requires.empty ∙ ap (λ a. replicate (a + min c.args.width c.args.k) []) c.requires.grid ∙ sources_none c.args.k c.args.width)
+    (c.requires.empty ∙ ap (λ a. replicate (a + min c.args.width c.args.k) []) c.requires.grid ∙ sources_none c.args.k c.args.width)
 
 pub loop-c-preserved : goal.loop-c-preserved
 loop-c-preserved c =
@@ -13,7 +13,7 @@ loop-c-preserved c =
     c.in_ok-insert-2.ensures.ok
     ∙ ap (λ m. with_entry m (c.args.grid_rows + symbol % c.args.width) symbol) (c.in_ok-insert.ensures.ok ∙ ap (λ m. with_entry m (symbol / c.args.width) symbol) c.loop-c.invariant)
     ∙ ap (λ a. with_entry (with_entry (record c.args.rows.now { rows = sources_below c.args.k c.args.width symbol }) (symbol / c.args.width) symbol) (a + symbol % c.args.width) symbol) c.requires.grid
-    ∙ sources_more c.args.rows.now c.args.k c.args.width symbol c.requires.wide c.loop-c-test.true
+    ∙ sources_more c.args.rows.now c.args.k c.args.width symbol c.requires.wide (omega arith)
 
 pub returns : goal.returns
 returns c =

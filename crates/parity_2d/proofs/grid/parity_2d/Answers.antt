@@ -1,4 +1,4 @@
-use Rattle.std.proofs.Common.{◌≡◌, ◌<◌, All, IfOk, sym, ap, subst, arith}
+use Rattle.std.proofs.Common.{◌≡◌, ◌<◌, All, IfOk, sym, subst, arith}
 use Rattle.sparse_rows.specs.Matrix.{HasShape}
 use Rattle.parity_2d.proofs.Shape.{sources_alone, made, grid_has_shape}
 use Rattle.parity_2d.proofs.grid.parity_2d.Goals as goal
@@ -9,11 +9,11 @@ add_parities-requires-clause-sources c =
 
 pub from_builder-requires : goal.from_builder-requires
 from_builder-requires c =
-    subst HasShape (sym (made c.args.k c.args.width c.in_ok-rows.rows c.add_sources.new.rows c.add_parities.new.rows (ap (λ m. m.k) c.in_ok-rows.ensures) (omega (arith, ap (λ m. m.n) c.in_ok-rows.ensures)) c.in_ok-add_sources.ensures c.in_ok-add_parities.ensures))
+    subst HasShape (sym (made c.args.k c.args.width c.in_ok-rows.ensures (omega arith) c.in_ok-add_sources.ensures c.in_ok-add_parities.ensures))
     (grid_has_shape c.args.k c.args.width c.requires.wide)
 
 pub returns : goal.returns
 returns c =
     subst (λ m. IfOk c.from_builder.result (λ code. code ≡ m))
-    (made c.args.k c.args.width c.in_ok-rows.rows c.add_sources.new.rows c.add_parities.new.rows (ap (λ m. m.k) c.in_ok-rows.ensures) (omega (arith, ap (λ m. m.n) c.in_ok-rows.ensures)) c.in_ok-add_sources.ensures c.in_ok-add_parities.ensures)
+    (made c.args.k c.args.width c.in_ok-rows.ensures (omega arith) c.in_ok-add_sources.ensures c.in_ok-add_parities.ensures)
     c.from_builder.ensures
