@@ -63,7 +63,7 @@ module _ (m : Matrix) (code : IsCode m) (len r : ℕ) (more : r < m.n - m.k) (by
     filled_word word sum_is =
         let same : m.k + (r + 1) ≡ m.k + r + 1 = omega arith in
         let front : symbols_of len (m.k + r) new ≡ symbols_of len (m.k + r) bytes =
-            sym (symbols_of_front len (m.k + r) new) ∙ ap (symbols_of len (m.k + r)) (take_at known (sum ++ drop len rest) target known_long ∙ known_is) ∙ symbols_of_front len (m.k + r) bytes in
+        sym (symbols_of_front len (m.k + r) new) ∙ ap (symbols_of len (m.k + r)) (take_at known (sum ++ drop len rest) target known_long ∙ known_is) ∙ symbols_of_front len (m.k + r) bytes in
         let own : piece len new (m.k + r) ≡ sum = ap (take len) new_rest ∙ take_at sum (drop len rest) len sum_long in
         let known_word : symbols_of len (m.k + r) known ≡ extend len (take r m.rows) start = ap (symbols_of len (m.k + r)) known_is ∙ symbols_of_front len (m.k + r) bytes ∙ word in
         let inside : r < length m.rows = omega (arith, code.shape.count) in
@@ -78,7 +78,7 @@ all_filled m code len r start bytes end long small word =
     let count : r ≡ length m.rows = omega (arith, code.shape.count) in
     let all : m.k + r ≡ m.n = omega (arith, code.shape.count) in
     let is : extend len m.rows (symbols_of len m.k start) ≡ symbols_of len m.n bytes =
-        ap (λ (rows : List (List ℕ)). extend len rows (symbols_of len m.k start)) (sym (take-length m.rows) ∙ ap (λ (c : ℕ). take c m.rows) (sym count)) ∙ sym word ∙ ap (λ (c : ℕ). symbols_of len c bytes) all in
+    ap (λ (rows : List (List ℕ)). extend len rows (symbols_of len m.k start)) (sym (take-length m.rows) ∙ ap (λ (c : ℕ). take c m.rows) (sym count)) ∙ sym word ∙ ap (λ (c : ℕ). symbols_of len c bytes) all in
     let fits : m.k * len ≤ m.n * len = mul-le-mul_right len (omega (arith, code.shape.count)) in
     subst (IsEncoded m len (symbols_of len m.k start)) is
     (source_has m code.shape len (symbols_of len m.k start) (length_symbols len m.k start) (symbols_are len m.k start (omega (arith, fits, long)) small))
@@ -88,5 +88,5 @@ pub encoded_padded : (m : Matrix) (len : ℕ) (source zeros start bytes : List �
     → IsEncoded m len (symbols_of len m.k start) (symbols_of len m.n bytes) → IsEncoded m len (symbols_of len m.k source) (symbols_of len n bytes)
 encoded_padded m len source zeros start bytes n long padded count encoded =
     let same : symbols_of len m.k start ≡ symbols_of len m.k source =
-        sym (symbols_of_front len m.k start) ∙ ap (symbols_of len m.k) (ap (take (m.k * len)) padded ∙ take_at source zeros (m.k * len) long) in
+    sym (symbols_of_front len m.k start) ∙ ap (symbols_of len m.k) (ap (take (m.k * len)) padded ∙ take_at source zeros (m.k * len) long) in
     rw count (subst (λ (s : List (List ℕ)). IsEncoded m len s (symbols_of len m.n bytes)) same encoded)

@@ -42,12 +42,7 @@ impl Coded {
 /// Encodes a source block: `source` holds the k source symbols of `len` bytes one after the other.
 /// The repair symbols follow row by row, each as the sum of the row's other symbols, in one pass
 /// over the entries of the matrix. The source is copied once, into its place.
-pub fn encode_block(
-    alloc: Global,
-    code: &Code,
-    source: &[u8],
-    len: u32,
-) -> Result<Coded, NoMemory>
+pub fn encode_block(alloc: Global, code: &Code, source: &[u8], len: u32) -> Result<Coded, NoMemory>
     requires some { 1 ≤ len }
     requires most { len ≤ 65535 }
     requires source { length source.now ≡ code.now.k * len }
@@ -58,11 +53,7 @@ pub fn encode_block(
     let mut bytes = with_zeros(alloc, source, count * len)?;
     let mut steps = Steps::<Tally>::start();
     fill_repair(code, len, &mut bytes, &mut steps);
-    Ok(Coded {
-        count,
-        len,
-        bytes,
-    })
+    Ok(Coded { count, len, bytes })
 }
 
 // The bytes, and zero bytes behind them up to the size.

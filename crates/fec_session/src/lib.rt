@@ -6,4 +6,3 @@
 mod encode;
 
 pub use encode::{Coded, encode_block};
-

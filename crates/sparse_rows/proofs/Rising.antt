@@ -174,9 +174,9 @@ place_counts (Ok j) c i row rising held bound below above (inl e) =
     let found : get_or row i 0 ≡ c = rw j_is at held.1 in
     let low : Below c (take i row) = rw found at (before_place row i rising lt) in
     let high : All (λ x. c ≤ x) (drop i row) = All-from_get_or (λ x. c ≤ x) (drop i row) 0
-        (λ q inside. let room : i + q < length row = omega (arith, inside, length-drop i row) in
-            let h : get_or row i 0 ≤ get_or row (i + q) 0 = rising_places row rising i (i + q) (omega arith) room in
-            rw (get_or-drop i row q 0) (omega (arith, found))) in
+    (λ q inside. let room : i + q < length row = omega (arith, inside, length-drop i row) in
+    let h : get_or row i 0 ≤ get_or row (i + q) 0 = rising_places row rising i (i + q) (omega arith) room in
+    rw (get_or-drop i row q 0) (omega (arith, found))) in
     (omega arith, sym (count_before c i row (omega arith) low high))
 place_counts (Ok j) c i row rising held bound below above (inr e) = absurd (cc)
 place_counts (Err j) c i row rising held bound below above (inl e) = absurd (cc)

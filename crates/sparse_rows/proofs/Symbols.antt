@@ -45,16 +45,16 @@ piece_of_front len i n bytes fits =
 pub symbols_of_front : (len count : ℕ) (bytes : List ℕ) → symbols_of len count (take (count * len) bytes) ≡ symbols_of len count bytes
 symbols_of_front len count bytes = ext_get_or [] _ _ (length_symbols len count _ ∙ sym (length_symbols len count bytes))
     (λ i lt. let inside : i < count = omega (arith, lt, length_symbols len count (take (count * len) bytes)) in
-        symbol_is len count _ i [] inside ∙ piece_of_front len i (count * len) bytes (symbol_room len count i inside) ∙ sym (symbol_is len count bytes i [] inside))
+    symbol_is len count _ i [] inside ∙ piece_of_front len i (count * len) bytes (symbol_room len count i inside) ∙ sym (symbol_is len count bytes i [] inside))
 
 -- each is a symbol
 pub symbols_are : (len count : ℕ) (bytes : List ℕ) → count * len ≤ length bytes → All (λ b. b < 256) bytes → All (IsSymbol len) (symbols_of len count bytes)
 symbols_are len count bytes room small = All-from_get_or (IsSymbol len) (symbols_of len count bytes) []
     (λ i lt. let inside : i < count = omega (arith, lt, length_symbols len count bytes) in
-        rw (symbol_is len count bytes i [] inside) (record {
-          long = length-take-le len (drop (i * len) bytes) (omega (arith, symbol_room len count i inside, length-drop (i * len) bytes));
-          bytes = All-take (λ b. b < 256) len _ (All-drop (λ b. b < 256) (i * len) bytes small);
-        }))
+    rw (symbol_is len count bytes i [] inside) (record {
+      long = length-take-le len (drop (i * len) bytes) (omega (arith, symbol_room len count i inside, length-drop (i * len) bytes));
+      bytes = All-take (λ b. b < 256) len _ (All-drop (λ b. b < 256) (i * len) bytes small);
+    }))
 
 -- ---- sums
 

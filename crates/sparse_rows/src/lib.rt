@@ -12,4 +12,3 @@ mod laws;
 pub use builder::RowsBuilder;
 pub use code::Code;
 pub use laws::one_codeword_for_each_source;
-

@@ -11,7 +11,7 @@ returns c =
     let new = c.fill_repair.new.bytes in
     let vector = c.in_ok-bytes.bytes in
     let refilled : take vector.len (new ++ drop (length new) vector.items) ≡ new =
-        take_at new (drop (length new) vector.items) vector.len (omega (arith, c.fill_repair.auto.bytes, c.deref_mut.ensures.len)) in
+    take_at new (drop (length new) vector.items) vector.len (omega (arith, c.fill_repair.auto.bytes, c.deref_mut.ensures.len)) in
     subst (λ (bytes : List ℕ). IsEncoded m c.args.len (symbols_of c.args.len m.k c.args.source.now) (symbols_of c.args.len c.n-count.result bytes)) (sym refilled)
     (encoded_padded m c.args.len c.args.source.now (replicate (c.n-count.result * c.args.len - length c.args.source.now) 0) c.deref_mut.result.now new c.n-count.result c.requires.source
     (c.deref_mut.ensures.value ∙ c.in_ok-bytes.ensures) c.n-count.ensures.value c.fill_repair.ensures)
