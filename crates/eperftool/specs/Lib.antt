@@ -1,0 +1,6 @@
+pub mod Status
+pub mod Command
+pub mod File
+pub mod Made
+pub mod Staged
+pub mod Run

@@ -1,0 +1,49 @@
+-- What a run does.
+use Rattle.std.specs.Prelude.{◌≡◌, ℕ, ◌+◌, ◌*◌, ◌⊎◌, ◌++◌, List, length, Option, codes}
+use Rattle.std.specs.Io.KnownBytes.{Appends, Consumes, IsAtEnd}
+use Rattle.fec_base.specs.Bytes.{AppendsFront}
+use Rattle.fec_base.specs.Causes.{Rose}
+use Rattle.eperftool.specs.Command.{Asks}
+use Rattle.eperftool.specs.File.{IsEncoding}
+use Rattle.eperftool.specs.declared.command.EncodeOptions.{EncodeOptions}
+
+-- some bytes were taken from the front of the input
+abbrev pub TakesSome : Option (List ℕ) → Option (List ℕ) → Type 0
+TakesSome left left_now = (bytes : List ℕ) × Consumes left left_now bytes
+
+-- some bytes were taken from the front of the input, and stand behind those that were there
+pub record TakesBehind (left left_now : Option (List ℕ)) (before after : List ℕ) : Type 0 where
+  pub bytes : List ℕ
+  pub taken : Consumes left left_now bytes
+  pub behind : after ≡ before ++ bytes
+
+-- the words ask for an `encode`, the input was read to its end, and these are its packet file and its report
+pub record Encodes (words : List (List ℕ)) (left left_now : Option (List ℕ)) (file report : List ℕ) : Type 0 where
+  pub options : EncodeOptions
+  pub asked : Asks words options
+  pub object : List ℕ
+  pub read : Consumes left left_now object
+  pub ended : IsAtEnd left_now
+  pub encoding : IsEncoding options object file report
+
+-- the words ask for nothing, or for an `encode` of one block whose input goes on after the block's bytes, of which one more was read
+abbrev pub IsUnbuilt : List (List ℕ) → Option (List ℕ) → Option (List ℕ) → Type 0
+IsUnbuilt words left left_now =
+    ((o : EncodeOptions) → ¬ Asks words o)
+    ⊎ ((o : EncodeOptions) × Asks words o × (bytes : List ℕ) × Consumes left left_now bytes × (length bytes ≡ o.block * o.symbol + 1))
+
+-- the sink took the text, or a front of it where its count rose
+abbrev pub IsTold : List ℕ → Option (List ℕ) → Option (List ℕ) → ℕ → ℕ → Type 0
+IsTold text held held_now faults faults_now = Appends held held_now text ⊎ (Rose faults faults_now × AppendsFront held held_now text)
+
+-- the output failed: it has a front of the file, and the report says so, as far as it takes the text
+pub record OutputFails (file : List ℕ) (held held_now : Option (List ℕ)) (faults faults_now : ℕ) (told told_now : Option (List ℕ)) (report_faults report_faults_now : ℕ) : Type 0 where
+  pub rose : Rose faults faults_now
+  pub front : AppendsFront held held_now file
+  pub told_so : IsTold (codes "fault: write\n") told told_now report_faults report_faults_now
+
+-- the report failed: the output has the whole file, and the report a front of its text
+pub record ReportFails (file report : List ℕ) (held held_now told told_now : Option (List ℕ)) (report_faults report_faults_now : ℕ) : Type 0 where
+  pub rose : Rose report_faults report_faults_now
+  pub whole : Appends held held_now file
+  pub front : AppendsFront told told_now report

@@ -1,0 +1,78 @@
+//! The program `eperftool`: words and an input in, a packet file and a report out. `run` is its top
+//! call, whose contract says what a user gets; `main` hands it the standard streams. It stands on
+//! `parity_2d` for the matrix of a block, on `fec_session` for its codeword, and on `fec_base` for
+//! the outside.
+#![tactic(auto)]
+
+mod command;
+mod encode;
+mod fields;
+mod laws;
+mod object;
+mod run;
+mod staging;
+mod status;
+
+pub use command::{EncodeOptions, read_words};
+pub use encode::{EncodedBlock, Made, make_file, write_file};
+use fec_base::{NoMemory, QuietWatch, ReadSource, Watch, Words, WriteSink};
+pub use fields::{make_header, make_report};
+pub use laws::{one_encoding_for_each_object, one_meaning_for_the_words};
+pub use object::{ObjectFault, read_object};
+pub use run::run;
+pub use staging::Staging;
+use std::alloc::Global;
+use std::env;
+use std::io::{BufReader, ErrorKind};
+use std::process::ExitCode;
+pub use status::{Ended, Status};
+
+// The exit status of words that can't be read, of which one isn't UTF-8.
+const USAGE: u8 = 2;
+
+// The input is read in pieces of this length, whatever the reads ask for.
+const INPUT_BUFFER_LEN: usize = 262_144;
+
+// The words after the program's name, or the exit status without them.
+fn collect_words(rt: &HostRuntime) -> Result<Words, u8> {
+    let mut words = Words::new(rt.alloc());
+    let args = match env::args(rt) {
+        Ok(args) => args,
+        Err(e) if e.kind() == ErrorKind::OutOfMemory => return Err(Status::Memory.code()),
+        Err(_) => return Err(USAGE),
+    };
+    for word in args.skip(1) {
+        match words.push(word.as_str()) {
+            Ok(()) => {}
+            Err(NoMemory) => return Err(Status::Memory.code()),
+        }
+    }
+    Ok(words)
+}
+
+// Runs over the standard streams. The output has no buffer behind it: `run` hands it large pieces,
+// and the error of a last flush would be lost.
+fn run_on_streams(rt: &HostRuntime, words: &Words) -> Status {
+    let alloc: Global = rt.alloc();
+    let watch: Box<dyn Watch> = match Box::new(alloc, QuietWatch) {
+        Ok(watch) => watch,
+        Err(_) => return Status::Memory,
+    };
+    let reader = match BufReader::with_capacity(alloc, INPUT_BUFFER_LEN, rt.stdin()) {
+        Ok(reader) => reader,
+        Err(_) => return Status::Memory,
+    };
+    let mut input = ReadSource::new(reader);
+    let mut output = WriteSink::new(rt.stdout());
+    let mut report = WriteSink::new(rt.stderr());
+    run(alloc, words, &mut input, &mut output, &mut report, watch).status
+}
+
+fn main(rt: HostRuntime) -> ExitCode {
+    let code = match collect_words(&rt) {
+        Ok(words) => run_on_streams(&rt, &words).code(),
+        Err(code) => code,
+    };
+    ExitCode::from(code)
+}
+
