@@ -29,8 +29,7 @@ cut_longer held now xs ys cut = (cut.0, omega (arith, length-append xs ys, cut.1
 -- a failure after a piece has passed leaves a front of both
 pub cut_after : (held mid now : Option (List ℕ)) (before between first second : List ℕ) → PassesOn held mid before between first → AppendsFront mid now (between ++ second) → AppendsFront held now (before ++ (first ++ second))
 cut_after held mid now before between first second p cut =
-    let whole : p.sent ++ (between ++ second) ≡ before ++ (first ++ second) = sym (append_assoc p.sent between second) ∙ ap (λ l. l ++ second) p.rest ∙ append_assoc before first second in
-    (
+    let whole : p.sent ++ (between ++ second) ≡ before ++ (first ++ second) = sym (append_assoc p.sent between second) ∙ ap (λ l. l ++ second) p.rest ∙ append_assoc before first second in (
       length p.sent + cut.0,
       omega (arith, cut.1, length-append p.sent (between ++ second), ap length whole),
       subst (Appends held now) (sym (take-append-add p.sent (between ++ second) cut.0) ∙ ap (take (length p.sent + cut.0)) whole) (Appends-trans held mid now p.sent (take cut.0 (between ++ second)) p.appended cut.2),
@@ -41,12 +40,11 @@ pub passes_whole : (held mid now : Option (List ℕ)) (after bytes : List ℕ) �
 passes_whole held mid now after bytes p flushed = subst (Appends held now) p.rest (Appends-trans held mid now p.sent after p.appended flushed)
 
 pub cut_whole : (held mid now : Option (List ℕ)) (after bytes : List ℕ) → PassesOn held mid [] after bytes → AppendsFront mid now after → AppendsFront held now bytes
-cut_whole held mid now after bytes p cut =
-    (
-      length p.sent + cut.0,
-      omega (arith, cut.1, length-append p.sent after, ap length p.rest),
-      subst (Appends held now) (sym (take-append-add p.sent after cut.0) ∙ ap (take (length p.sent + cut.0)) p.rest) (Appends-trans held mid now p.sent (take cut.0 after) p.appended cut.2),
-    )
+cut_whole held mid now after bytes p cut = (
+  length p.sent + cut.0,
+  omega (arith, cut.1, length-append p.sent after, ap length p.rest),
+  subst (Appends held now) (sym (take-append-add p.sent after cut.0) ∙ ap (take (length p.sent + cut.0)) p.rest) (Appends-trans held mid now p.sent (take cut.0 after) p.appended cut.2),
+)
 
 -- seven parts, each behind the ones before
 pub seven_parts : (a b c d e f g l1 l2 l3 l4 l5 l6 l7 : List ℕ) → l1 ≡ a → l2 ≡ l1 ++ b → l3 ≡ l2 ++ c → l4 ≡ l3 ++ d → l5 ≡ l4 ++ e → l6 ≡ l5 ++ f → l7 ≡ l6 ++ g → l7 ≡ a ++ b ++ c ++ d ++ e ++ f ++ g

@@ -16,9 +16,9 @@ use Rattle.eperftool.specs.declared.command.EncodeOptions.{EncodeOptions}
 pub ceil_most : (n e b : ℕ) → 1 ≤ e → n ≤ b * e → div_ceil n e ≤ b
 ceil_most n e b some fits = ⊎_elim
     (λ (more : b < div_ceil n e).
-        let room : (b + 1) * e ≤ div_ceil n e * e = mul-le-mul_right e (omega arith) in
-        let next : (b + 1) * e ≡ b * e + e = ap (λ (c : ℕ). c * e) (add-one b) ∙ suc-mul b e in
-        let most : div_ceil n e * e < n + e = (div_ceil_times n e some).1 in absurd (omega (arith, room, next, most)))
+    let room : (b + 1) * e ≤ div_ceil n e * e = mul-le-mul_right e (omega arith) in
+    let next : (b + 1) * e ≡ b * e + e = ap (λ (c : ℕ). c * e) (add-one b) ∙ suc-mul b e in
+    let most : div_ceil n e * e < n + e = (div_ceil_times n e some).1 in absurd (omega (arith, room, next, most)))
     (λ (le : div_ceil n e ≤ b). le)
     (cases_lt b (div_ceil n e))
 
@@ -31,7 +31,7 @@ pub ceil_some : (n e : ℕ) → 1 ≤ e → 0 < n → 1 ≤ div_ceil n e
 ceil_some n e some bytes = ⊎_elim
     (λ (h : 0 < div_ceil n e). h)
     (λ (none : div_ceil n e ≤ 0).
-        let room : div_ceil n e * e ≤ 0 * e = mul-le-mul_right e none in absurd (omega (arith, room, ceil_room n e some)))
+    let room : div_ceil n e * e ≤ 0 * e = mul-le-mul_right e none in absurd (omega (arith, room, ceil_room n e some)))
     (cases_lt 0 (div_ceil n e))
 
 -- fewer source symbols make no larger block

@@ -1,16 +1,13 @@
 -- An object has one encoding.
-use Rattle.std.proofs.Common.{◌≡◌, ℕ, ◌+◌, ◌<◌, ◌≤◌, List, [], ◌∷◌, ◌++◌, length, refl, sym, ap, ap₂, ◌∙◌, subst, arith}
+use Rattle.std.proofs.Common.{◌≡◌, ℕ, ◌+◌, ◌*◌, ◌<◌, ◌≤◌, List, [], ◌∷◌, ◌++◌, length, refl, sym, ap, ap₂, ◌∙◌, subst, arith}
 use Rattle.std.specs.List.{AllZip}
 use Rattle.sparse_rows.specs.Matrix.{HasShape}
 use Rattle.sparse_rows.proofs.Encode.{source_one}
-use Rattle.sparse_rows.proofs.Symbols.{length_symbols}
 use Rattle.parity_2d.specs.Grid.{grid_matrix}
-use Rattle.parity_2d.proofs.Shape.{grid_shape}
+use Rattle.parity_2d.proofs.Shape.{grid_has_shape}
 use Rattle.eperftool.specs.Command.{IsInLimits}
 use Rattle.eperftool.specs.File.{IsEncoding, IsEncodedSource, AreEncoded, source_blocks, source_symbols, block_matrix, encode_report, header, packets, padded}
 use Rattle.eperftool.specs.declared.command.EncodeOptions.{EncodeOptions}
-use Rattle.eperftool.proofs.Sizes.{ceil_some}
-use Rattle.std.specs.Int.{div_ceil}
 
 -- codewords of the same source blocks, where each block has a source symbol
 words_one : (o : EncodeOptions) → IsInLimits o → (object : List ℕ) (words others : List (List (List ℕ))) → AreEncoded o object words → AreEncoded o object others → words ≡ others
@@ -21,10 +18,7 @@ words_one o limits (byte ∷ object) [] others p q = absurd p
 words_one o limits (byte ∷ object) (word ∷ words) [] p q = absurd q
 words_one o limits (byte ∷ object) (word ∷ []) (other ∷ []) p q =
     let source : List (List ℕ) = source_symbols o.symbol (byte ∷ object) in
-    let count : ℕ = div_ceil (length (byte ∷ object)) o.symbol in
-    let long : length source ≡ count = length_symbols o.symbol count (padded (count * o.symbol) (byte ∷ object)) in
-    let some : 1 ≤ length source = omega (arith, long, ceil_some (length (byte ∷ object)) o.symbol limits.symbol (omega arith)) in
-    let shape : HasShape (block_matrix o (length source)) = grid_shape (length source) o.width some limits.width in
+    let shape : HasShape (block_matrix o (length source)) = grid_has_shape (length source) o.width limits.width in
     ap (λ (w : List (List ℕ)). w ∷ []) (source_one (block_matrix o (length source)) shape o.symbol source word other p.0 q.0)
 words_one o limits (byte ∷ object) (word ∷ []) (other ∷ more ∷ others) p q = absurd q.1
 words_one o limits (byte ∷ object) (word ∷ more ∷ words) (other ∷ others) p q = absurd p.1

@@ -74,7 +74,13 @@ fn is_in_limits(options: &EncodeOptions) -> bool
         block,
         symbol,
     } = *options;
-    if width == 0 || width > 65_536 || block == 0 || block > 65_536 || symbol == 0 || symbol > 65_535 {
+    if width == 0
+        || width > 65_536
+        || block == 0
+        || block > 65_536
+        || symbol == 0
+        || symbol > 65_535
+    {
         return false;
     }
     let size = size_2d(block, width);

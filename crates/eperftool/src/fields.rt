@@ -12,9 +12,13 @@ use parity_2d::size_2d;
 use std::alloc::Global;
 
 const HEADER_LEN: usize = 26;
+
 const MAGIC: &[u8; 4] = b"OFPK";
+
 const VERSION: u8 = 1;
+
 const CODEC_2D: u8 = 200;
+
 const RESERVED: u8 = 0;
 // N1 - 3 in the upper three bits, which is 0 for this codec, and G in the lower five.
 const ONE_GROUP: u8 = 1;

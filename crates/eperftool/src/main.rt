@@ -21,11 +21,11 @@ pub use laws::{one_encoding_for_each_object, one_meaning_for_the_words};
 pub use object::{ObjectFault, read_object};
 pub use run::run;
 pub use staging::Staging;
+pub use status::{Ended, Status};
 use std::alloc::Global;
 use std::env;
 use std::io::{BufReader, ErrorKind};
 use std::process::ExitCode;
-pub use status::{Ended, Status};
 
 // The exit status of words that can't be read, of which one isn't UTF-8.
 const USAGE: u8 = 2;
@@ -76,3 +76,5 @@ fn main(rt: HostRuntime) -> ExitCode {
     ExitCode::from(code)
 }
 
+#[cfg(test)]
+mod tests;

@@ -41,7 +41,7 @@ pub fn run<S: Source, K: Sink, R: Sink>(
     // WriteFault: only where a count rose, with a front of what Done would have written.
     ensures cut { result.status ≡ Status.WriteFault → (file : List ℕ) × (text : List ℕ) × Encodes words.now (S.left input.old) (S.left input.new) file text
         × (OutputFails file (K.held output.old) (K.held output.new) (K.faults output.old) (K.faults output.new) (R.held report.old) (R.held report.new) (R.faults report.old) (R.faults report.new)
-            ⊎ ReportFails file text (K.held output.old) (K.held output.new) (R.held report.old) (R.held report.new) (R.faults report.old) (R.faults report.new)) }
+        ⊎ ReportFails file text (K.held output.old) (K.held output.new) (R.held report.old) (R.held report.new) (R.faults report.old) (R.faults report.new)) }
 
     // ReadFault: only where the input's count rose.
     ensures read { result.status ≡ Status.ReadFault → Rose (S.faults input.old) (S.faults input.new) }
@@ -70,7 +70,7 @@ fn encode<S: Source, K: Sink, R: Sink>(
         × Appends (K.held output.old) (K.held output.new) file × Appends (R.held report.old) (R.held report.new) text }
     ensures cut { result ≡ Status.WriteFault → (file : List ℕ) × (text : List ℕ) × Encodes words.now (S.left input.old) (S.left input.new) file text
         × (OutputFails file (K.held output.old) (K.held output.new) (K.faults output.old) (K.faults output.new) (R.held report.old) (R.held report.new) (R.faults report.old) (R.faults report.new)
-            ⊎ ReportFails file text (K.held output.old) (K.held output.new) (R.held report.old) (R.held report.new) (R.faults report.old) (R.faults report.new)) }
+        ⊎ ReportFails file text (K.held output.old) (K.held output.new) (R.held report.old) (R.held report.new) (R.faults report.old) (R.faults report.new)) }
     ensures read { result ≡ Status.ReadFault → Rose (S.faults input.old) (S.faults input.new) }
     ensures unbuilt { result ≡ Status.Unbuilt → IsUnbuilt words.now (S.left input.old) (S.left input.new) }
     ensures unasked { ((o : EncodeOptions) → ¬ Asks words.now o) → (result ≡ Status.Unbuilt) × (input.new ≡ input.old) × (output.new ≡ output.old) }

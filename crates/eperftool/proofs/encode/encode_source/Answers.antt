@@ -26,5 +26,5 @@ returns-clause-encoded c =
     let count : c.div_ceil-k.result ≡ div_ceil (length object) o.symbol = c.div_ceil-k.ensures ∙ ap (λ (n : ℕ). div_ceil n o.symbol) (let same : c.len.result ≡ length object = omega (arith, c.len.ensures, c.args.object.ok.0) in same) in
     let all : c.deref.result.now ≡ padded (div_ceil (length object) o.symbol * o.symbol) object = c.deref.ensures.value ∙ c.in_ok-resize.ensures.items ∙ padded_is object o.symbol c.div_ceil-k.result c.args.object.len c.requires.limits.symbol count c.args.object.ok.0 in
     let encoded : IsEncoded (grid_matrix c.div_ceil-k.result o.width) o.symbol (symbols_of o.symbol c.div_ceil-k.result c.deref.result.now) c.in_ok-word.word =
-        subst (λ (m : Matrix). IsEncoded m o.symbol (symbols_of o.symbol m.k c.deref.result.now) c.in_ok-word.word) c.in_ok-code.ensures c.in_ok-word.ensures in
+    subst (λ (m : Matrix). IsEncoded m o.symbol (symbols_of o.symbol m.k c.deref.result.now) c.in_ok-word.word) c.in_ok-code.ensures c.in_ok-word.ensures in
     source_encoded o object c.deref.result.now c.div_ceil-k.result c.in_ok-word.word all count encoded
