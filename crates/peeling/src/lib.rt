@@ -1,0 +1,6 @@
+//! Peeling.
+#![tactic(auto)]
+
+mod laws;
+
+pub use laws::{closure_is_determined, closure_is_least};
