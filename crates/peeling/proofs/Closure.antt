@@ -6,7 +6,7 @@ use Rattle.std.proofs.lemmas.List.Elements.{All-head, All-filter}
 use Rattle.sparse_rows.specs.Matrix.{Matrix, HasShape}
 use Rattle.sparse_rows.specs.Closure.{Set, IsWithin, HasSameMembers, outside, round, rounds, closure}
 use Rattle.sparse_rows.proofs.Shape.{below, last_outside, last_or_before}
-use Rattle.peeling.proofs.Rounds.{rounds_within, round_holds, outside_one, round_row, round_cases, same_test}
+use Rattle.peeling.proofs.Sets.{rounds_within, round_holds, outside_one, round_row, round_cases, same_test}
 
 -- each column of a row is below n
 pub row_below : (m : Matrix) → HasShape m → (i : ℕ) → i < length m.rows → All (λ c. c < m.n) (get_or m.rows i [])

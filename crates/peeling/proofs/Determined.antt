@@ -7,7 +7,7 @@ use Rattle.sparse_rows.specs.Closure.{Set, IsWithin, outside, round, rounds, clo
 use Rattle.sparse_rows.proofs.Algebra.{XorLaws, total, one_left}
 use Rattle.sparse_rows.proofs.Planes.{byte, byte_laws, plane_zero, same_bytes}
 use Rattle.peeling.specs.Agree.{Agree}
-use Rattle.peeling.proofs.Rounds.{round_cases, rounds_more, outside_one, round_holds}
+use Rattle.peeling.proofs.Sets.{round_cases, rounds_more, outside_one, round_holds}
 
 -- a row with no column outside a set lies within it
 pub row_within : (s : Set) (row : List ℕ) → outside s row ≡ [] → All (λ c. s c ≡ true) row

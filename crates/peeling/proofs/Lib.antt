@@ -1,3 +1,9 @@
-pub mod Rounds
+pub mod Sets
 pub mod Closure
 pub mod Determined
+pub mod Flags
+pub mod Laid
+pub mod Columns
+pub mod Peeled
+pub mod Pass
+pub mod Arrivals

@@ -1,2 +1,7 @@
 pub mod Agree
+pub mod Decoder
+pub mod Stands
 pub mod Laws
+pub mod Outcome
+pub mod Peeled
+pub mod Storage
