@@ -1,6 +1,6 @@
 -- One arrival more, and what is consistent with the arrivals.
 use mathlib.Core.Path.{fun_ext}
-use Rattle.std.proofs.Common.{length-append, lt-suc_self, ◌≡◌, ◌≢◌, ℕ, zero, suc, ◌<◌, ⊎_elim, Bool, true, false, not, ◌||◌, ◌&&◌, ◌==◌, List, [], ◌∷◌, ◌++◌, length, get_or, filter, All, refl, sym, ap, ap₂, ◌∙◌, subst, arith, true≢false, eqb-true, eq-eqb}
+use Rattle.std.proofs.Common.{length-append, lt-suc_self, ◌≡◌, ℕ, suc, ⊎_elim, Bool, true, false, not, ◌||◌, ◌&&◌, ◌==◌, List, [], ◌∷◌, ◌++◌, length, get_or, filter, All, refl, sym, ap, ap₂, ◌∙◌, subst, arith, eqb-true}
 use Rattle.std.proofs.lemmas.List.Folds.{list_any-append}
 use Rattle.std.proofs.lemmas.List.Elements.{All-head, All-tail, All-from_get_or}
 use Rattle.std.specs.List.{range_with_len}
@@ -8,7 +8,7 @@ use Rattle.std.proofs.lemmas.List.{get_or_append_left}
 use Rattle.std.proofs.Math.Seq.{get_or-append_seam}
 use Rattle.sparse_rows.specs.Symbol.{xor_sum, xor}
 use Rattle.sparse_rows.specs.Matrix.{Matrix, HasShape}
-use Rattle.sparse_rows.specs.Codeword.{Arrival, Fits, positions, SumsToZeroWithin}
+use Rattle.sparse_rows.specs.Codeword.{Arrival, Fits, positions}
 use Rattle.sparse_rows.specs.Closure.{Set, IsWithin, HasSameMembers, adding, closure, fresh, members}
 use Rattle.peeling.specs.Agree.{Agree}
 use Rattle.peeling.specs.Stands.{IsConsistent}

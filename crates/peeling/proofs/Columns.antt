@@ -1,9 +1,9 @@
 -- The columns of a row, read one by one.
-use Rattle.std.proofs.Common.{◌≡◌, ◌≢◌, ℕ, suc, ◌+◌, ◌-◌, ◌<◌, ◌≤◌, Bool, true, false, not, cond, List, [], ◌∷◌, ◌++◌, All, length, get_or, filter, take, drop, Option, Some, None, option_to_list, IsSome, MatchOption, refl, sym, ap, ap₂, ◌∙◌, subst, arith, add-one, take-append-drop, drop-cons, append-nil}
+use Rattle.std.proofs.Common.{◌≡◌, ℕ, suc, ◌+◌, ◌-◌, ◌<◌, ◌≤◌, true, false, not, cond, List, [], ◌∷◌, ◌++◌, All, length, get_or, take, drop, Option, Some, None, option_to_list, IsSome, MatchOption, refl, sym, ap, ap₂, ◌∙◌, subst, arith, add-one, take-append-drop, drop-cons, append-nil}
 use Rattle.std.proofs.Math.Seq.{take-suc, take-length}
 use Rattle.std.proofs.lemmas.List.Elements.{filter-append, All-push, All-filter, All-head, All-replicate}
 use Rattle.std.proofs.lemmas.List.{ext_get_or}
-use Rattle.sparse_rows.specs.Symbol.{IsSymbol, xor, zero_symbol, xor_sum}
+use Rattle.sparse_rows.specs.Symbol.{xor, zero_symbol, xor_sum}
 use Rattle.sparse_rows.specs.Matrix.{Matrix, IsRow, IsCode, row_of}
 use Rattle.sparse_rows.specs.Codeword.{IsAssignment}
 use Rattle.sparse_rows.specs.Closure.{Set, outside}

@@ -1,13 +1,12 @@
 -- Symbols that lie one after the other, with a flag each.
 use mathlib.Core.Path.{fun_ext}
-use Rattle.std.proofs.Common.{inl, inr, ◌⊎◌, true≢false, eq-or-lt_of_le, Fits, w8, rules, ◌≡◌, ℕ, zero, suc, ◌+◌, ◌-◌, ◌*◌, ◌<◌, ◌≤◌, ⊎_elim, Bool, true, false, cond, ◌==◌, List, [], ◌∷◌, ◌++◌, length, get_or, take, drop, replicate, All, refl, sym, ap, ap₂, ◌∙◌, subst, arith, eqb-true, eq-eqb, length-append, length-drop, length-take-le, drop-drop, ◌||◌, set, length-set}
+use Rattle.std.proofs.Common.{inl, inr, ◌⊎◌, true≢false, eq-or-lt_of_le, Fits, w8, rules, ◌≡◌, ℕ, ◌+◌, ◌-◌, ◌*◌, ◌<◌, ◌≤◌, ⊎_elim, Bool, true, false, cond, ◌==◌, List, ◌++◌, length, get_or, take, drop, replicate, All, refl, sym, ap, ◌∙◌, arith, eqb-true, eq-eqb, length-append, length-drop, length-take-le, drop-drop, ◌||◌, set, length-set}
 use Rattle.std.proofs.lemmas.Bool.{cases_lt, ne_eqb}
-use Rattle.std.proofs.Math.Nat.{mul-le-mul_right}
 use Rattle.std.proofs.Math.Seq.{take_at, drop_at}
-use Rattle.std.proofs.lemmas.List.{get_or_past, length-replicate, take-replicate, drop-replicate}
+use Rattle.std.proofs.lemmas.List.{get_or_past, take-replicate, drop-replicate}
 use Rattle.std.proofs.lemmas.List.Elements.{All-from_get_or, All-append, All-take, All-drop}
 use Rattle.sparse_rows.specs.Symbol.{IsSymbol, zero_symbol, symbols_of}
-use Rattle.sparse_rows.specs.Codeword.{symbol_at, IsAssignment}
+use Rattle.sparse_rows.specs.Codeword.{IsAssignment}
 use Rattle.sparse_rows.proofs.Planes.{symbol_at_is}
 use Rattle.sparse_rows.proofs.Symbols.{length_symbols, symbol_is, symbol_room, symbols_are, piece, piece_of_front}
 use Rattle.sparse_rows.specs.Closure.{adding}

@@ -7,3 +7,5 @@ pub mod Columns
 pub mod Peeled
 pub mod Pass
 pub mod Arrivals
+pub mod Received
+pub mod Stored

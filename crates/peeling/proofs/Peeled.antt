@@ -1,9 +1,9 @@
 -- How peeling goes on, row by row.
-use Rattle.std.proofs.Common.{◌≡◌, ◌≢◌, ℕ, ◌+◌, ◌-◌, ◌<◌, ⊎_elim, Bool, true, false, cond, ◌||◌, ◌==◌, List, [], ◌∷◌, ◌*◌, ◌++◌, length, get_or, set, take, drop, All, refl, sym, ap, ap₂, ◌∙◌, subst, arith, true≢false, eqb-true, eq-eqb, bit_xor}
+use Rattle.std.proofs.Common.{◌≡◌, ℕ, ◌+◌, ◌-◌, ◌<◌, ⊎_elim, Bool, true, false, cond, ◌==◌, List, [], ◌∷◌, ◌*◌, ◌++◌, length, get_or, set, take, drop, All, refl, sym, ap, ◌∙◌, subst, arith, true≢false, eqb-true, eq-eqb, bit_xor}
 use Rattle.std.proofs.lemmas.Bool.{ne_eqb}
 use Rattle.sparse_rows.specs.Symbol.{IsSymbol, xor_sum, zero_symbol}
 use Rattle.sparse_rows.specs.Matrix.{Matrix, HasShape, IsCode, row_of}
-use Rattle.sparse_rows.specs.Codeword.{IsAssignment, SumsToZero, SumsToZeroWithin}
+use Rattle.sparse_rows.specs.Codeword.{IsAssignment, SumsToZeroWithin}
 use Rattle.sparse_rows.specs.Closure.{Set, IsWithin, HasSameMembers, outside, adding, round, closure}
 use Rattle.sparse_rows.proofs.Encode.{sum_is_symbol}
 use Rattle.sparse_rows.proofs.Algebra.{total, one_left, closes}
@@ -11,7 +11,7 @@ use Rattle.sparse_rows.proofs.Planes.{byte, byte_laws, byte_sum, byte_zero, plan
 use Rattle.peeling.specs.Agree.{Agree}
 use Rattle.peeling.specs.Decoder.{flagged}
 use Rattle.peeling.specs.Peeled.{laid, IsLaid, unset_count, IsAtRest, IsPeeled}
-use Rattle.peeling.proofs.Sets.{same_test, or_cases, or_first, or_second, outside_one, round_row, round_cases, round_holds, rounds_hold, rounds_within}
+use Rattle.peeling.proofs.Sets.{same_test, or_cases, or_first, outside_one, round_row, round_cases, round_holds, rounds_hold, rounds_within}
 use Rattle.peeling.proofs.Closure.{closure_rests}
 use Rattle.peeling.proofs.Determined.{row_within}
 use Rattle.peeling.proofs.Flags.{flagged_set, unset_less}

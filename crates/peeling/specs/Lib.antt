@@ -5,3 +5,4 @@ pub mod Laws
 pub mod Outcome
 pub mod Peeled
 pub mod Storage
+pub mod Blank

@@ -1,5 +1,5 @@
 -- How a decoder keeps what contracts see of it.
-use Rattle.std.specs.Prelude.{◌≡◌, ◌≤◌, ℕ, length}
+use Rattle.std.specs.Prelude.{◌≡◌, ◌≤◌, length}
 use Rattle.std.specs.Vec.{vec_capacity}
 use Rattle.sparse_rows.specs.Symbol.{symbols_of}
 use Rattle.sparse_rows.specs.Matrix.{IsCode}
@@ -13,11 +13,11 @@ abbrev pub decoder_of : Inside → Decoder
 decoder_of p = record {
   matrix = p.code;
   len = p.len;
-  arrived = p.arrived.items;
-  known = p.known.items;
-  symbols = symbols_of p.len p.code.n p.symbols.items;
+  arrived = p.store.arrived.items;
+  known = p.store.known.items;
+  symbols = symbols_of p.len p.code.n p.store.symbols.items;
   clashed = p.clashed;
-  fresh = p.fresh.items;
+  fresh = p.store.fresh.items;
 }
 
 -- flags and symbols for each position of a code, the known positions the closure of those that arrived, and room for one arrival
@@ -25,9 +25,9 @@ pub record IsStored (p : Inside) : Type 0 where
   pub code : IsCode p.code
   pub some : 1 ≤ p.len
   pub most : p.len ≤ 65535
-  pub arrived : length p.arrived.items ≡ p.code.n
-  pub laid : IsLaid p.code.n p.len p.known.items p.symbols.items
-  pub closed : HasSameMembers (flagged p.known.items) (closure p.code (flagged p.arrived.items))
-  pub before : length p.before.items ≡ p.code.n
-  pub sum : length p.sum.items ≡ p.len
-  pub room : p.code.n ≤ vec_capacity p.fresh
+  pub arrived : length p.store.arrived.items ≡ p.code.n
+  pub laid : IsLaid p.code.n p.len p.store.known.items p.store.symbols.items
+  pub closed : HasSameMembers (flagged p.store.known.items) (closure p.code (flagged p.store.arrived.items))
+  pub before : length p.store.before.items ≡ p.code.n
+  pub sum : length p.store.sum.items ≡ p.len
+  pub room : p.code.n ≤ vec_capacity p.store.fresh

@@ -1,4 +1,4 @@
-use Rattle.std.proofs.Common.{◌≡◌, ◌≤◌, ◌&&◌, not, length, ap, ap₂, ◌∙◌, arith}
+use Rattle.std.proofs.Common.{◌≤◌, ◌&&◌, not, length, ap, ap₂, ◌∙◌, arith}
 use Rattle.std.specs.Vec.{vec_capacity}
 use Rattle.peeling.specs.Decoder.{flagged}
 use Rattle.peeling.proofs.Flags.{members_few, fresh_one, fresh_none}

@@ -1,7 +1,7 @@
-use Rattle.std.proofs.Common.{◌≡◌, ◌<◌, sym, subst, arith, List, ℕ}
+use Rattle.std.proofs.Common.{◌<◌, arith}
 use Rattle.sparse_rows.proofs.Symbols.{symbol_room}
 use Rattle.peeling.specs.Decoder.{flagged}
-use Rattle.peeling.specs.Peeled.{laid, IsLaid, IsPeeled}
+use Rattle.peeling.specs.Peeled.{laid}
 use Rattle.peeling.proofs.Columns.{single_below}
 use Rattle.peeling.proofs.Peeled.{peeled_none, row_laid, row_less, row_peeled}
 use Rattle.peeling.proofs.rounds.peel_row.Goals as goal

@@ -1,9 +1,8 @@
-use Rattle.std.proofs.Common.{◌≡◌, ◌+◌, ◌-◌, ◌*◌, ◌<◌, ◌≤◌, ℕ, true, length, take, drop, sym, ap, ◌∙◌, arith, length-take-le, length-drop}
+use Rattle.std.proofs.Common.{◌≡◌, ◌*◌, ◌<◌, ℕ, true, length, take, drop, sym, ap, ◌∙◌, arith, length-take-le, length-drop}
 use Rattle.sparse_rows.specs.Matrix.{row_of}
-use Rattle.sparse_rows.specs.Symbol.{xor_sum}
 use Rattle.sparse_rows.proofs.Symbols.{symbol_room}
 use Rattle.peeling.specs.Peeled.{laid}
-use Rattle.peeling.proofs.Columns.{column_below, sum_more, all_read}
+use Rattle.peeling.proofs.Columns.{column_below, sum_more}
 use Rattle.peeling.proofs.Laid.{bytes_small, laid_is, laid_at}
 use Rattle.peeling.proofs.rows.sum_row.Goals as goal
 
