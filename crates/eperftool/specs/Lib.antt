@@ -2,5 +2,6 @@ pub mod Status
 pub mod Command
 pub mod File
 pub mod Made
+pub mod Received
 pub mod Staged
 pub mod Run

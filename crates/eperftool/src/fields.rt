@@ -11,7 +11,7 @@ use itoa::Buffer;
 use parity_2d::size_2d;
 use std::alloc::Global;
 
-const HEADER_LEN: usize = 26;
+use crate::HEADER_LEN;
 
 const MAGIC: &[u8; 4] = b"OFPK";
 

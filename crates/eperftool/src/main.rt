@@ -7,6 +7,7 @@
 mod command;
 mod encode;
 mod fields;
+mod header;
 mod laws;
 mod object;
 mod run;
@@ -17,6 +18,7 @@ pub use command::{EncodeOptions, read_words};
 pub use encode::{EncodedBlock, Made, make_file, write_file};
 use fec_base::{NoMemory, QuietWatch, ReadSource, Watch, Words, WriteSink};
 pub use fields::{make_header, make_report};
+pub use header::{FileHeader, HEADER_LEN, parse_header};
 pub use laws::{one_encoding_for_each_object, one_meaning_for_the_words};
 pub use object::{ObjectFault, read_object};
 pub use run::run;
