@@ -3,6 +3,8 @@ use Rattle.std.specs.Prelude.{◌≡◌, ℕ, ◌*◌, ◌≤◌, List, [], ◌�
 use Rattle.std.specs.Fmt.{decimal}
 use Rattle.parity_2d.specs.Grid.{size_2d}
 use Rattle.eperftool.specs.declared.command.EncodeOptions.{EncodeOptions}
+use Rattle.eperftool.specs.declared.command.Command.{Command}
+use Rattle.eperftool.specs.declared.command.Command.TheVariants.{Encode, Decode}
 
 -- the words of an `encode` with these options, each number in decimal
 abbrev pub encode_words : EncodeOptions → List (List ℕ)
@@ -25,6 +27,15 @@ pub record Asks (words : List (List ℕ)) (o : EncodeOptions) : Type 0 where
   pub spelled : words ≡ encode_words o
   pub in_limits : IsInLimits o
 
--- words ask for one `encode` at most
+-- the words of a `decode`
+abbrev pub decode_words : List (List ℕ)
+decode_words = codes "decode" ∷ []
+
+-- the words ask for this command
+abbrev pub Means : List (List ℕ) → Command → Type 0
+Means words (Encode o) = Asks words o
+Means words Decode = words ≡ decode_words
+
+-- words ask for one command at most
 abbrev pub WordsHaveOneMeaning : Type 0
-WordsHaveOneMeaning = (words : List (List ℕ)) (o other : EncodeOptions) → Asks words o → Asks words other → o ≡ other
+WordsHaveOneMeaning = (words : List (List ℕ)) (command other : Command) → Means words command → Means words other → command ≡ other

@@ -1,6 +1,5 @@
 -- A packet file as a receiver finds it, and the object that its packets determine.
-use Rattle.std.specs.Prelude.{◌≡◌, ◌≢◌, ℕ, ◌+◌, ◌*◌, ◌^◌, ◌<◌, ◌≤◌, ◌==◌, if◌then◌else◌, true, List, [], ◌++◌, length, take, All, codes}
-use Rattle.std.specs.Fmt.{decimal}
+use Rattle.std.specs.Prelude.{◌≡◌, ◌≢◌, ℕ, ◌+◌, ◌*◌, ◌^◌, ◌<◌, ◌≤◌, ◌==◌, if◌then◌else◌, true, List, [], ◌++◌, length, take, All}
 use Rattle.std.specs.Int.{div_ceil}
 use Rattle.std.specs.List.{flat_map}
 use Rattle.sparse_rows.specs.Matrix.{Matrix}
@@ -55,7 +54,7 @@ abbrev pub object_of : EncodeOptions → ℕ → List (List ℕ) → List ℕ
 object_of o transfer_length word = take transfer_length (flat_map (λ symbol. symbol) (take (source_count o transfer_length) word))
 
 -- peeling gives the object: the closure of what arrived holds every source symbol, and the object is that of a codeword that fits
-pub record IsPeeledObject (o : EncodeOptions) (transfer_length : ℕ) (arrivals : List Arrival) (object : List ℕ) : Type 0 where
+pub record IsPeeled (o : EncodeOptions) (transfer_length : ℕ) (arrivals : List Arrival) (object : List ℕ) : Type 0 where
   pub known : (position : ℕ) → position < source_count o transfer_length → closure (file_matrix o transfer_length) (positions arrivals) position ≡ true
   pub word : List (List ℕ)
   pub codeword : IsCodeword (file_matrix o transfer_length) o.symbol word
@@ -70,10 +69,6 @@ pub record IsStuck (o : EncodeOptions) (transfer_length : ℕ) (arrivals : List 
 -- the arrivals contradict one another: no symbols of the closure agree with all of them and with the rows within it
 abbrev pub IsContradicted : EncodeOptions → ℕ → List Arrival → Type 0
 IsContradicted o transfer_length arrivals = (x : ℕ → List ℕ) → ¬ IsConsistent (file_matrix o transfer_length) o.symbol arrivals x
-
--- the report of a `decode`: a line for the block, and the number of packets
-abbrev pub decode_report : List ℕ → ℕ → List ℕ
-decode_report line count = line ++ codes "packets " ++ decimal count ++ codes "\n"
 
 -- the bytes are no packet file
 abbrev pub IsNoPacketFile : List ℕ → Type 0

@@ -1,7 +1,7 @@
 -- The statuses of the program: their numbers and their texts.
 use Rattle.std.specs.Prelude.{ℕ, List, [], ⊤, codes}
 use Rattle.eperftool.specs.declared.status.Status.{Status}
-use Rattle.eperftool.specs.declared.status.Status.TheVariants.{Done, Memory, ReadFault, WriteFault, Unbuilt}
+use Rattle.eperftool.specs.declared.status.Status.TheVariants.{Done, Memory, ReadFault, WriteFault, NoCodeword, Unbuilt, Stuck}
 
 -- the exit status
 abbrev pub code_of : Status → ℕ
@@ -9,20 +9,26 @@ code_of Done = 0
 code_of Memory = 1
 code_of ReadFault = 3
 code_of WriteFault = 4
+code_of NoCodeword = 9
 code_of Unbuilt = 11
+code_of Stuck = 12
 
--- the report of a status other than Done
+-- the report of a status that goes by nothing else
 abbrev pub fault_text : Status → List ℕ
 fault_text Done = []
 fault_text Memory = codes "fault: memory\n"
 fault_text ReadFault = codes "fault: read\n"
 fault_text WriteFault = codes "fault: write\n"
+fault_text NoCodeword = []
 fault_text Unbuilt = codes "fault: unbuilt\n"
+fault_text Stuck = []
 
--- a status that ends a run before it writes its output
+-- a status that ends a run before its output, and whose report goes by nothing else
 abbrev pub IsEarly : Status → Type 0
 IsEarly Done = ⊥
 IsEarly Memory = ⊤
 IsEarly ReadFault = ⊤
 IsEarly WriteFault = ⊥
+IsEarly NoCodeword = ⊥
 IsEarly Unbuilt = ⊤
+IsEarly Stuck = ⊥

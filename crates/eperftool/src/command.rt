@@ -1,6 +1,6 @@
 // What the words after the program's name ask for.
 ghost use Rattle.std.specs.Prelude.{◌≡◌, ◌≢◌, ◌<◌, ◌^◌, ◌++◌, ◌↔◌, ℕ, IsTrue, MatchOption, decimal};
-ghost use Rattle.eperftool.specs.Command.{Asks, IsInLimits, encode_words};
+ghost use Rattle.eperftool.specs.Command.{Asks, Means, IsInLimits, encode_words};
 
 use fec_base::Words;
 use itoa::Buffer;
@@ -17,10 +17,28 @@ pub struct EncodeOptions {
     pub symbol: u32,
 }
 
-/// What the words ask for: exactly these five words in this order, each number in decimal, without
-/// a sign and without a leading zero, such that a block has at most 65,536 encoding symbols and
-/// at most 268,435,456 bytes. None where they ask for anything else.
-pub fn read_words(words: &Words) -> Option<EncodeOptions>
+/// A command of the program.
+#[derive(Clone, Copy, Debug, PartialEq, Eq)]
+pub enum Command {
+    Encode(EncodeOptions),
+    Decode,
+}
+
+/// What the words ask for. `decode` is the one word of its command. An `encode` is exactly the five
+/// words of its options in their order, each number in decimal, without a sign and without a leading
+/// zero, such that a block has at most 65,536 encoding symbols and at most 268,435,456 bytes. None
+/// where they ask for anything else.
+pub fn read_words(words: &Words) -> Option<Command>
+    ensures { MatchOption result ((c : Command) → ¬ Means words.now c) (λ c. Means words.now c) }
+{
+    if words.count() == 1 && words.word(0) == "decode" {
+        return Some(Command::Decode);
+    }
+    Some(Command::Encode(read_encode(words)?))
+}
+
+// What the words of an `encode` ask for.
+fn read_encode(words: &Words) -> Option<EncodeOptions>
     ensures { MatchOption result ((o : EncodeOptions) → ¬ Asks words.now o) (λ o. Asks words.now o) }
 {
     let options = read_options(words)?;

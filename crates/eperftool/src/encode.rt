@@ -16,8 +16,8 @@ use fec_session::{Coded, encode_block};
 use parity_2d::parity_2d;
 use std::alloc::Global;
 
-// Room for many packets: the sink is handed them as one piece.
-const STAGING_LEN: usize = 262_144;
+/// How many bytes wait for the output at most: room for many packets, which it takes as one piece.
+pub const STAGING_LEN: usize = 262_144;
 
 /// The codeword of a source block, and how many encoding symbols it has.
 #[derive(Drop)]

@@ -5,22 +5,28 @@
 #![tactic(auto)]
 
 mod command;
+mod decode;
 mod encode;
+mod ending;
 mod fields;
 mod header;
 mod laws;
 mod object;
+mod receive;
 mod run;
 mod staging;
 mod status;
 
-pub use command::{EncodeOptions, read_words};
-pub use encode::{EncodedBlock, Made, make_file, write_file};
+pub use command::{Command, EncodeOptions, read_words};
+pub use decode::{BlockOutcome, decode};
+pub use encode::{EncodedBlock, Made, STAGING_LEN, make_file, write_file};
+pub use ending::{conclude, tell};
 use fec_base::{NoMemory, QuietWatch, ReadSource, Watch, Words, WriteSink};
 pub use fields::{make_header, make_report};
 pub use header::{FileHeader, HEADER_LEN, parse_header};
 pub use laws::{one_encoding_for_each_object, one_meaning_for_the_words};
 pub use object::{ObjectFault, read_object};
+pub use receive::{Received, receive};
 pub use run::run;
 pub use staging::Staging;
 pub use status::{Ended, Status};

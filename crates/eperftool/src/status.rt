@@ -15,8 +15,12 @@ pub enum Status {
     ReadFault = 3,
     /// The output or the report failed.
     WriteFault = 4,
+    /// No codeword fits the packets: they contradict one another.
+    NoCodeword = 9,
     /// The words or the input ask for something that isn't built yet.
     Unbuilt = 11,
+    /// Peeling leaves a source symbol open.
+    Stuck = 12,
 }
 
 impl Status {
@@ -27,12 +31,13 @@ impl Status {
         self as u8
     }
 
-    /// The report of a status other than `Done`, whose report each command makes.
+    /// The report of a status, and nothing for `Done`, `NoCodeword` and `Stuck`, whose report goes
+    /// by the input.
     pub fn fault_text(self) -> &'static str
         ensures { result.now ≡ fault_text self }
     {
         match self {
-            Status::Done => "",
+            Status::Done | Status::NoCodeword | Status::Stuck => "",
             Status::Memory => "fault: memory\n",
             Status::ReadFault => "fault: read\n",
             Status::WriteFault => "fault: write\n",

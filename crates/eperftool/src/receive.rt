@@ -1,0 +1,147 @@
+// A packet file, received packet by packet.
+ghost use Rattle.std.specs.Prelude.{◌≡◌, ◌≢◌, ◌≤◌, ◌+◌, List, length, IfOk};
+ghost use Rattle.fec_base.specs.Causes.{Rose};
+ghost use Rattle.sparse_rows.specs.Codeword.{Arrival};
+ghost use Rattle.eperftool.specs.Run.{TakesSome};
+ghost use Rattle.eperftool.specs.Received.{IsFileHeader};
+ghost use Rattle.eperftool.specs.Decoded.{KeepsDecoder, IsReceived, ReadsNoFile, TakesNoPacket, TakesPackets, ReadsNoPackets, ReadsPackets};
+
+use crate::{EncodeOptions, FileHeader, HEADER_LEN, Status, parse_header};
+use byteorder::{BigEndian, ByteOrder};
+use fec_base::{NoMemory, ReadFailed, Source, Steps, Tally, read_full};
+use fec_session::Core;
+use parity_2d::parity_2d;
+use std::alloc::Global;
+
+// The identifier of a packet: the source block's number in 12 bits, and the ESI in 20.
+const IDENTIFIER_LEN: usize = 4;
+
+// How many packets a file has at most.
+const MOST_PACKETS: u32 = 16_777_216;
+
+/// A packet file that was read whole.
+#[derive(Drop)]
+pub struct Received {
+    pub header: FileHeader,
+    /// The decoder of the object's block. None where the object has no bytes.
+    pub decoder: Option<Core>,
+    /// How many packets came, repeats among them.
+    pub packets: u32,
+}
+
+/// Receives the packet file that the input is. One packet is in memory at a time, beside the
+/// decoder. `Unbuilt` where the input is no packet file of one block of this codec: nothing is read
+/// behind the header or the packet that shows it.
+pub fn receive<S: Source>(alloc: Global, input: &mut S) -> Result<Received, Status>
+    ensures received { IfOk result (λ r. (arrivals : List Arrival) × IsReceived (S.left input.old) (S.left input.new) r arrivals) }
+    ensures early { IfErr result IsEarly }
+    ensures read { result ≡ Err Status.ReadFault → Rose (S.faults input.old) (S.faults input.new) }
+    ensures unbuilt { result ≡ Err Status.Unbuilt → ReadsNoFile (S.left input.old) (S.left input.new) }
+    ensures taken { TakesSome (S.left input.old) (S.left input.new) }
+{
+    let header = read_header(alloc, input)?;
+    let mut decoder = make_decoder(alloc, &header)?;
+    let packets = receive_packets(alloc, input, &header, &mut decoder)?;
+    Ok(Received {
+        header,
+        decoder,
+        packets,
+    })
+}
+
+// Reads the header.
+fn read_header<S: Source>(alloc: Global, input: &mut S) -> Result<FileHeader, Status>
+    ensures fields { IfOk result (λ h. IsFileHeader h.options h.transfer_length) }
+    ensures bytes { IfOk result (λ h. Consumes (S.left input.old) (S.left input.new) (header h.options h.transfer_length)) }
+    ensures early { IfErr result IsEarly }
+    ensures read { result ≡ Err Status.ReadFault → Rose (S.faults input.old) (S.faults input.new) }
+    ensures unbuilt { result ≡ Err Status.Unbuilt → ReadsNoFile (S.left input.old) (S.left input.new) }
+    ensures taken { OnErr result (TakesSome (S.left input.old) (S.left input.new)) }
+    ensures later { S.faults input.old ≤ S.faults input.new }
+{
+    let mut bytes = [0u8; HEADER_LEN];
+    match read_full(input, &mut bytes) {
+        Ok(HEADER_LEN) => {}
+        Ok(_) => return Err(Status::Unbuilt),
+        Err(ReadFailed) => return Err(Status::ReadFault),
+    }
+    match parse_header(alloc, &bytes) {
+        Ok(Some(header)) => Ok(header),
+        Ok(None) => Err(Status::Unbuilt),
+        Err(NoMemory) => Err(Status::Memory),
+    }
+}
+
+// A decoder of the object's block, at which nothing has arrived. None where the object has no bytes.
+fn make_decoder(alloc: Global, header: &FileHeader) -> Result<Option<Core>, Status>
+    requires { IsFileHeader header.now.options header.now.transfer_length }
+    ensures empty { IfOk result (KeepsDecoder header.now.options header.now.transfer_length []) }
+    ensures memory { OnErr result (result ≡ Err Status.Memory) }
+{
+    if header.transfer_length == 0 {
+        return Ok(None);
+    }
+    let EncodeOptions { width, symbol, .. } = header.options;
+    let k = header.transfer_length.div_ceil(symbol as u64) as u32;
+    let Ok(code) = parity_2d(alloc, k, width) else {
+        return Err(Status::Memory);
+    };
+    match Core::new(alloc, code, symbol) {
+        Ok(core) => Ok(Some(core)),
+        Err(_) => Err(Status::Memory),
+    }
+}
+
+// Takes in the packets behind the header, to the end of the input. Says how many.
+fn receive_packets<S: Source>(
+    alloc: Global,
+    input: &mut S,
+    header: &FileHeader,
+    decoder: &mut Option<Core>,
+) -> Result<u32, Status>
+    requires { IsFileHeader header.now.options header.now.transfer_length }
+    ensures packets { IfOk result (λ count. (arrivals : List Arrival) × ReadsPackets (S.left input.old) (S.left input.new) header.now.options header.now.transfer_length decoder.old decoder.new count arrivals) }
+    ensures early { IfErr result IsEarly }
+    ensures read { result ≡ Err Status.ReadFault → Rose (S.faults input.old) (S.faults input.new) }
+    ensures unbuilt { result ≡ Err Status.Unbuilt → ReadsNoPackets (S.left input.old) (S.left input.new) header.now.options header.now.transfer_length }
+    ensures taken { OnErr result (TakesSome (S.left input.old) (S.left input.new)) }
+{
+    let len = IDENTIFIER_LEN + header.options.symbol as usize;
+    let mut piece = match vec![in alloc; 0u8; len] {
+        Ok(piece) => piece,
+        Err(_) => return Err(Status::Memory),
+    };
+    for packets in 0..=MOST_PACKETS {
+        match take_packet(input, &mut piece, decoder) {
+            Ok(true) => {}
+            Ok(false) => return Ok(packets),
+            Err(status) => return Err(status),
+        }
+    }
+    Err(Status::Unbuilt)
+}
+
+// Takes in the next packet. Says whether there was one.
+fn take_packet<S: Source>(
+    input: &mut S,
+    piece: &mut [u8],
+    decoder: &mut Option<Core>,
+) -> Result<bool, Status>
+{
+    match read_full(input, piece) {
+        Ok(0) => return Ok(false),
+        Ok(taken) if taken < piece.len() => return Err(Status::Unbuilt),
+        Ok(_) => {}
+        Err(ReadFailed) => return Err(Status::ReadFault),
+    }
+    let (identifier, symbol) = piece.split_at(IDENTIFIER_LEN);
+    // The first source block has the number 0, so an identifier of its packets is the ESI.
+    let esi = BigEndian::read_u32(identifier);
+    match decoder {
+        Some(core) if esi < core.code().n() => {
+            core.arrive(esi, symbol, &mut Steps::<Tally>::start());
+            Ok(true)
+        }
+        _ => Err(Status::Unbuilt),
+    }
+}
