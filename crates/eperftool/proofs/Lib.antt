@@ -5,3 +5,4 @@ pub mod Sizes
 pub mod Headers
 pub mod Ends
 pub mod Unique
+pub mod Reading

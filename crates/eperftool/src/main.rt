@@ -19,7 +19,9 @@ pub use encode::{EncodedBlock, Made, make_file, write_file};
 use fec_base::{NoMemory, QuietWatch, ReadSource, Watch, Words, WriteSink};
 pub use fields::{make_header, make_report};
 pub use header::{FileHeader, HEADER_LEN, parse_header};
-pub use laws::{one_encoding_for_each_object, one_meaning_for_the_words};
+pub use laws::{
+    one_encoding_for_each_object, one_meaning_for_the_words, one_reading_for_each_file,
+};
 pub use object::{ObjectFault, read_object};
 pub use run::run;
 pub use staging::Staging;
