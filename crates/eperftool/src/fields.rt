@@ -1,8 +1,8 @@
 // The header's fields and the report's text.
 ghost use Rattle.std.specs.Prelude.{◌≡◌, ◌≤◌, ◌<◌, ◌^◌, ◌++◌, ◌∷◌, [], IfOk, OnOk, codes, decimal};
 ghost use Rattle.byteorder.specs.Endian.{big_bytes};
-ghost use Rattle.eperftool.specs.Command.{IsInLimits};
 ghost use Rattle.eperftool.specs.File.{header};
+ghost use Rattle.eperftool.specs.Received.{IsFileHeader};
 
 use crate::EncodeOptions;
 use byteorder::{BigEndian, ByteOrder};
@@ -31,8 +31,7 @@ pub fn make_header(
     options: &EncodeOptions,
     transfer_length: u64,
 ) -> Result<Vec<u8>, NoMemory>
-    requires limits { IsInLimits options.now }
-    requires length { transfer_length < 2 ^ 48 }
+    requires { IsFileHeader options.now transfer_length }
     ensures { IfOk result (λ bytes. bytes.items ≡ header options.now transfer_length) }
 {
     let sizes = options.block as u64 * UPPER_BITS + size_2d(options.block, options.width);

@@ -1,6 +1,7 @@
 // Laws over the definitions alone.
 ghost use Rattle.eperftool.specs.Command.{WordsHaveOneMeaning};
 ghost use Rattle.eperftool.specs.File.{EncodingIsOne};
+ghost use Rattle.eperftool.specs.Received.{PacketFileIsOne};
 
 /// The words ask for at most one `encode`.
 pub fn one_meaning_for_the_words()
@@ -10,4 +11,10 @@ pub fn one_meaning_for_the_words()
 /// By given options an object has at most one packet file and one report.
 pub fn one_encoding_for_each_object()
     ensures { EncodingIsOne }
+{}
+
+/// The bytes of a packet file have one reading: they are the file of one header and one list of
+/// packets.
+pub fn one_reading_for_each_file()
+    ensures { PacketFileIsOne }
 {}

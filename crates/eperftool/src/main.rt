@@ -24,7 +24,9 @@ pub use ending::{conclude, tell};
 use fec_base::{NoMemory, QuietWatch, ReadSource, Watch, Words, WriteSink};
 pub use fields::{make_header, make_report};
 pub use header::{FileHeader, HEADER_LEN, parse_header};
-pub use laws::{one_encoding_for_each_object, one_meaning_for_the_words};
+pub use laws::{
+    one_encoding_for_each_object, one_meaning_for_the_words, one_reading_for_each_file,
+};
 pub use object::{ObjectFault, read_object};
 pub use receive::{Received, receive};
 pub use run::run;
