@@ -95,6 +95,7 @@ module _ (m : Matrix) (code : IsCode m) (len : ℕ) (arrived known : List Bool) 
       code = refl;
       len = refl;
       arrived = refl;
+      known = repeat_closed;
       fresh_is = sym (fresh_repeat m code.shape (flagged arrived) e inside);
       keeps = λ c f. refl;
       own = λ missing. absurd (true≢false (sym there ∙ missing));
@@ -179,6 +180,7 @@ module _ (m : Matrix) (code : IsCode m) (len : ℕ) (arrived known : List Bool) 
       code = refl;
       len = refl;
       arrived = refl;
+      known = new_closed;
       fresh_is = listed ∙ ap (λ n. members n (λ c. flagged more c && not (flagged (set known e true) c))) more_is.flags
           ∙ fresh_is m (flagged arrived) (flagged known) (flagged more) (flagged (set known e true)) e closed (λ c. new_closed c ∙ ap (λ s. closure m s c) with_flag) (λ c. ap (λ s. s c) with_known);
       keeps = earlier;
