@@ -1,0 +1,64 @@
+-- Flags, as a set.
+use mathlib.Core.Path.{fun_ext}
+use Rattle.std.proofs.Common.{◌≡◌, ◌≢◌, ℕ, zero, suc, ◌+◌, ◌<◌, ⊎_elim, Bool, true, false, not, cond, ◌&&◌, ◌==◌, List, [], ◌∷◌, ◌++◌, length, set, filter, replicate, refl, sym, ap, ap₂, ◌∙◌, subst, arith, eqb-true, eq-eqb, true≢false, get_or-set_other, get_or-set_same, ◌≤◌, append-nil}
+use Rattle.std.proofs.lemmas.List.Sums.{sum_by-cons}
+use Rattle.std.specs.List.{range_with_len}
+use Rattle.std.proofs.lemmas.List.{map-id}
+use Rattle.std.proofs.lemmas.List.Filters.{length-filter_both}
+use Rattle.std.proofs.lemmas.List.FromFn.{filter_of_map_range_with_len_more, length-range_with_len}
+use Rattle.sparse_rows.specs.Closure.{Set, HasSameMembers, members, adding}
+use Rattle.peeling.specs.Decoder.{flagged}
+use Rattle.peeling.specs.Peeled.{unset_count}
+use Rattle.peeling.proofs.Sets.{true_or_false, or_none, or_true}
+
+-- one flag more
+pub flagged_set : (flags : List Bool) (e : ℕ) → e < length flags → flagged (set flags e true) ≡ adding e (flagged flags)
+flagged_set flags e lt = fun_ext (λ c. ⊎_elim
+    (λ h. let z : e ≡ c = eqb-true e c h in subst (λ d. flagged (set flags e true) d ≡ adding e (flagged flags) d) z (rw (get_or-set_same, eq-eqb e e refl) (sym (or_true (flagged flags e)))))
+    (λ h. let ne : c ≢ e = λ z. true≢false (sym (eq-eqb e c (sym z)) ∙ h) in rw (get_or-set_other, h) (sym (or_none (flagged flags c))))
+    (true_or_false (e == c)))
+
+-- no flags
+pub flagged_none : (n : ℕ) → flagged (replicate n false) ≡ (λ c. false)
+flagged_none n = fun_ext (λ c. at n c)
+  where
+    at : (n c : ℕ) → flagged (replicate n false) c ≡ false
+    at zero c = refl
+    at (suc n) zero = refl
+    at (suc n) (suc c) = at n c
+
+-- a flag that is set leaves one less
+pub unset_less : (flags : List Bool) (e : ℕ) → e < length flags → flagged flags e ≡ false → unset_count (set flags e true) < unset_count flags
+unset_less [] e lt f = absurd (omega arith)
+unset_less (b ∷ flags) zero lt f = rw (f, sum_by-cons (λ flag. cond (not flag) 1 0) true flags, sum_by-cons (λ flag. cond (not flag) 1 0) false flags) (omega arith)
+unset_less (b ∷ flags) (suc e) lt f =
+    let rest : unset_count (set flags e true) < unset_count flags = unset_less flags e (omega arith) f in
+    rw (sum_by-cons (λ flag. cond (not flag) 1 0) b (set flags e true), sum_by-cons (λ flag. cond (not flag) 1 0) b flags) (omega arith)
+
+-- ---- the members of a set, as a list
+
+-- sets with the same members are listed alike
+pub members_same : (n : ℕ) (s t : Set) → HasSameMembers s t → members n s ≡ members n t
+members_same n s t h = ap (members n) (fun_ext h)
+
+-- one position more
+pub members_more : (n : ℕ) (s : Set) → members (n + 1) s ≡ members n s ++ cond (s n) (n ∷ []) []
+members_more n s =
+    ap (filter s) (sym (map-id (range_with_len 0 (n + 1)))) ∙ filter_of_map_range_with_len_more s (λ c. c) 0 n n (omega arith)
+    ∙ ap (λ (xs : List ℕ). filter s xs ++ cond (s n) (n ∷ []) []) (map-id (range_with_len 0 n))
+
+-- there are at most n
+pub members_few : (n : ℕ) (s : Set) → length (members n s) ≤ n
+members_few n s =
+    let both : length (filter s (range_with_len 0 n)) + length (filter (λ c. not (s c)) (range_with_len 0 n)) ≡ length (range_with_len 0 n) = length-filter_both s (λ c. not (s c)) (λ c. refl) (range_with_len 0 n) in
+    omega (arith, both, length-range_with_len 0 n)
+
+-- the new positions, one position more
+module _ (before known : List Bool) (i : ℕ) (items new : List ℕ) (listed : items ≡ members i (λ c. flagged known c && not (flagged before c))) where
+  pub fresh_one : flagged known i ≡ true → flagged before i ≡ false → new ≡ items ++ i ∷ [] → new ≡ members (i + 1) (λ c. flagged known c && not (flagged before c))
+  fresh_one e f is = is ∙ ap (λ (xs : List ℕ). xs ++ i ∷ []) listed ∙ sym (members_more i (λ c. flagged known c && not (flagged before c))
+      ∙ ap (λ b. members i (λ c. flagged known c && not (flagged before c)) ++ cond b (i ∷ []) []) (ap₂ (λ a b. a && not b) e f))
+
+  pub fresh_none : (flagged known i && not (flagged before i)) ≡ false → new ≡ items → new ≡ members (i + 1) (λ c. flagged known c && not (flagged before c))
+  fresh_none e is = is ∙ listed ∙ sym (members_more i (λ c. flagged known c && not (flagged before c))
+      ∙ ap (λ b. members i (λ c. flagged known c && not (flagged before c)) ++ cond b (i ∷ []) []) e ∙ append-nil (members i (λ c. flagged known c && not (flagged before c))))

@@ -1,0 +1,12 @@
+pub mod Sets
+pub mod Closure
+pub mod Determined
+pub mod Flags
+pub mod Laid
+pub mod Columns
+pub mod Peeled
+pub mod Pass
+pub mod Arrivals
+pub mod Received
+pub mod Stored
+pub mod Decided
