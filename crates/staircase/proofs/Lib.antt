@@ -1,1 +1,5 @@
 pub mod FirstDraw
+pub mod Counted
+pub mod Filled
+pub mod Blocked
+pub mod Turns
