@@ -3,3 +3,5 @@ pub mod Counted
 pub mod Filled
 pub mod Blocked
 pub mod Turns
+pub mod InOrder
+pub mod Columns

@@ -78,7 +78,8 @@ impl Choices {
     // How often row r is left.
     pub fn count(&self, r: u32) -> u32
         requires { r < self.now.rows }
-        ensures { result ≡ count_by (λ row. row == r) self.now.list }
+        ensures value { result ≡ count_by (λ row. row == r) self.now.list }
+        ensures most { length self.now.list ≤ MAX_BOUND }
     {
         self.counts[r as usize]
     }
