@@ -5,3 +5,5 @@ pub mod Blocked
 pub mod Turns
 pub mod InOrder
 pub mod Columns
+pub mod Gains
+pub mod Extended
