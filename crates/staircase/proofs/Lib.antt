@@ -7,3 +7,4 @@ pub mod InOrder
 pub mod Columns
 pub mod Gains
 pub mod Extended
+pub mod Whole

@@ -36,11 +36,12 @@ pub fn left(
 {
     let mut rows = RowsBuilder::new(alloc, k, n)?;
     let count = n - k;
-    if count > 0 {
-        let mut choices = Choices::new(alloc, count, n1 * k)?;
-        fill_columns(&mut rows, &mut choices, k, n1.min(count), g)?;
-        add_extras(&mut rows, k, count, g)?;
+    if count == 0 {
+        return Ok(rows);
     }
+    let mut choices = Choices::new(alloc, count, n1 * k)?;
+    fill_columns(&mut rows, &mut choices, k, n1.min(count), g)?;
+    add_extras(&mut rows, k, count, g)?;
     Ok(rows)
 }
 
