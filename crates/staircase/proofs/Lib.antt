@@ -8,3 +8,4 @@ pub mod Columns
 pub mod Gains
 pub mod Extended
 pub mod Whole
+pub mod RightSide

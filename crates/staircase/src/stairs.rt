@@ -1,7 +1,8 @@
 // The right side of the staircase, and the code.
-ghost use Rattle.std.specs.Prelude.{◌≡◌, ◌<◌, ◌≤◌, ◌+◌, ◌-◌, ℕ, length, Some, None, Err, IfOk, OnOk};
+ghost use Rattle.std.specs.Prelude.{◌≡◌, ◌<◌, ◌≤◌, ◌+◌, ◌-◌, ℕ, length, Some, None, Err, All, IfOk, OnOk};
 ghost use Rattle.staircase.specs.LeftSide.{IsLeftSide};
-ghost use Rattle.staircase.specs.Staircase.{with_stairs, staircase_matrix};
+ghost use Rattle.sparse_rows.specs.Matrix.{row_of};
+ghost use Rattle.staircase.specs.Staircase.{with_stair, with_stairs, staircase_matrix};
 
 use crate::left_side::left;
 use crate::refusal::BuildRefusal;
@@ -48,16 +49,31 @@ pub fn staircase(
     })
 }
 
-// Puts the repair symbols into the rows: each into its own row, and into the next one.
+// Puts the repair symbols into the rows.
 fn add_stairs(rows: &mut RowsBuilder, k: u32, count: u32) -> Result<(), NoMemory>
     requires left { IsLeftSide k (k + count) rows.old }
     requires most { k + count ≤ 65536 }
     ensures { OnOk result (rows.new ≡ with_stairs rows.old) }
 {
     for r in 0..count {
-        if r > 0 {
-            rows.insert(r, k + r - 1)?;
-        }
+        add_stair(rows, k, r)?;
+    }
+    Ok(())
+}
+
+// Puts the repair symbol of row r into it, behind that of the row before.
+fn add_stair(rows: &mut RowsBuilder, k: u32, r: u32) -> Result<(), NoMemory>
+    requires row { r < rows.old.n - k }
+    requires size { k ≡ rows.old.k }
+    requires most { rows.old.n ≤ 65536 }
+    requires inside { r < length rows.old.rows }
+    requires sources { All (λ c. c < k) (row_of rows.old r) }
+    ensures { OnOk result (rows.new ≡ with_stair rows.old r) }
+{
+    if r == 0 {
+        rows.insert(r, k)?;
+    } else {
+        rows.insert(r, k + r - 1)?;
         rows.insert(r, k + r)?;
     }
     Ok(())
