@@ -1,5 +1,35 @@
-# Proves every crate, tries the must-fail edits, runs the tests and the program: the gate.
+# The targets, each with what it is for. `make` alone prints this list.
+
+PREFIX ?= /usr/local
+
+# Words of a run over no bytes: `build` needs a run that ends with status 0.
+EMPTY_RUN = encode --codec=2d --width=3 --block=5 --symbol=1
+
+#   make help               prints the targets
+help:
+	@sed -n 's/^#   make /make /p' $(firstword $(MAKEFILE_LIST))
+
+#   make demo               encodes README.md and shows the report, the packets and the source in them
+demo:
+	@sh demo/run.sh
+
+#   make test               the gate: proves every crate, tries the must-fail edits, runs the tests and the program
 test:
 	rt ci
 
-.PHONY: test
+#   make build              proves and builds the program, and prints its path: build/eperftool
+build:
+	cd crates/eperftool && rt run -- $(EMPTY_RUN) < /dev/null > /dev/null
+	mkdir -p build
+	cp crates/eperftool/out/eperftool build/eperftool
+	@echo "built: $(CURDIR)/build/eperftool"
+
+build/eperftool:
+	$(MAKE) build
+
+#   make install PREFIX=..  installs the built program into PREFIX/bin (PREFIX is /usr/local if not given)
+install: build/eperftool
+	install -d $(DESTDIR)$(PREFIX)/bin
+	install -m 755 build/eperftool $(DESTDIR)$(PREFIX)/bin/eperftool
+
+.PHONY: help demo test build install

@@ -1,5 +1,5 @@
 -- The sizes of a source block, and the symbols of a padded object.
-use Rattle.std.proofs.Common.{◌≡◌, ℕ, ◌+◌, ◌-◌, ◌*◌, ◌<◌, ◌≤◌, min, List, ◌++◌, length, take, replicate, sym, ap, ap₂, ◌∙◌, subst, arith, ⊎_elim, suc-mul, add-one, le_refl}
+use Rattle.std.proofs.Common.{◌≡◌, ℕ, ◌+◌, ◌-◌, ◌*◌, ◌<◌, ◌≤◌, List, ◌++◌, length, take, replicate, sym, ap, ap₂, ◌∙◌, subst, arith, ⊎_elim, suc-mul, add-one}
 use Rattle.std.proofs.Math.Nat.{mul-le-mul_right}
 use Rattle.std.specs.Int.{div_ceil}
 use Rattle.std.proofs.lemmas.Bool.{cases_lt}
@@ -9,7 +9,7 @@ use Rattle.parity_2d.specs.Grid.{size_2d, grid_matrix}
 use Rattle.sparse_rows.specs.Symbol.{symbols_of}
 use Rattle.sparse_rows.specs.Codeword.{IsEncoded}
 use Rattle.sparse_rows.proofs.Symbols.{length_symbols}
-use Rattle.eperftool.specs.File.{padded, source_symbols, block_matrix, IsEncodedSource}
+use Rattle.eperftool.specs.File.{padded, source_symbols, IsEncodedSource}
 use Rattle.eperftool.specs.declared.command.EncodeOptions.{EncodeOptions}
 
 -- an object of at most b symbols has at most b source symbols

@@ -1,12 +1,10 @@
 -- An object has one encoding.
-use Rattle.std.proofs.Common.{◌≡◌, ℕ, ◌+◌, ◌*◌, ◌<◌, ◌≤◌, List, [], ◌∷◌, ◌++◌, length, refl, sym, ap, ap₂, ◌∙◌, subst, arith}
-use Rattle.std.specs.List.{AllZip}
+use Rattle.std.proofs.Common.{◌≡◌, ℕ, List, [], ◌∷◌, ◌++◌, length, refl, sym, ap, ◌∙◌}
 use Rattle.sparse_rows.specs.Matrix.{HasShape}
 use Rattle.sparse_rows.proofs.Encode.{source_one}
-use Rattle.parity_2d.specs.Grid.{grid_matrix}
 use Rattle.parity_2d.proofs.Shape.{grid_has_shape}
 use Rattle.eperftool.specs.Command.{IsInLimits}
-use Rattle.eperftool.specs.File.{IsEncoding, IsEncodedSource, AreEncoded, source_blocks, source_symbols, block_matrix, encode_report, header, packets, padded}
+use Rattle.eperftool.specs.File.{IsEncoding, AreEncoded, source_symbols, block_matrix, encode_report, header, packets}
 use Rattle.eperftool.specs.declared.command.EncodeOptions.{EncodeOptions}
 
 -- codewords of the same source blocks, where each block has a source symbol

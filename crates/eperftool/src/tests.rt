@@ -56,8 +56,7 @@ fn packet_file(alloc: Global, len: u8, word: &[u8]) -> Result<Vec<u8>, Fail> {
     file.push(len)?;
     file.extend_from_slice(&[0, 1, 1, 0, 0, 0x50, 0, 0x0a, 0, 0, 0, 3])?;
     for (esi, symbol) in word.iter().enumerate() {
-        file.extend_from_slice(&(esi as u32).to_be_bytes())?;
-        file.push(*symbol)?;
+        file.extend_from_slice(&[0, 0, 0, (esi & 0xff) as u8, *symbol])?;
     }
     Ok(file)
 }

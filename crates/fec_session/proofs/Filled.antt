@@ -1,10 +1,10 @@
 -- Repair symbols filled in behind the source symbols, one for each row.
-use Rattle.std.proofs.Common.{Fits, w8, ◌≡◌, ℕ, zero, suc, ◌+◌, ◌-◌, ◌*◌, ◌<◌, ◌≤◌, List, [], ◌∷◌, ◌++◌, length, get_or, take, drop, replicate, All, refl, sym, ap, ap₂, ◌∙◌, subst, arith, le_refl, add-one, append_assoc, length-append, length-drop, length-take-le, drop-drop, suc-mul}
+use Rattle.std.proofs.Common.{◌≡◌, ℕ, suc, ◌+◌, ◌-◌, ◌*◌, ◌<◌, ◌≤◌, List, [], ◌∷◌, ◌++◌, length, take, drop, replicate, All, refl, sym, ap, ap₂, ◌∙◌, subst, arith, add-one, length-append, length-drop, length-take-le, drop-drop, suc-mul}
 use Rattle.std.proofs.Math.Nat.{mul-le-mul_right}
 use Rattle.std.proofs.Math.Seq.{take-suc, take-length, take_at, drop_at}
 use Rattle.std.proofs.lemmas.List.{length-replicate, take-replicate, drop-replicate}
-use Rattle.sparse_rows.specs.Symbol.{IsSymbol, xor, zero_symbol, xor_sum, symbols_of}
-use Rattle.sparse_rows.specs.Matrix.{Matrix, HasShape, IsCode, row_of}
+use Rattle.sparse_rows.specs.Symbol.{zero_symbol, xor_sum, symbols_of}
+use Rattle.sparse_rows.specs.Matrix.{Matrix, IsCode, row_of}
 use Rattle.sparse_rows.specs.Codeword.{symbol_at, IsEncoded}
 use Rattle.sparse_rows.proofs.Encode.{extend, source_has}
 use Rattle.sparse_rows.proofs.Symbols.{length_symbols, symbols_more, symbols_of_front, symbols_are, piece}

@@ -1,14 +1,13 @@
 -- The sum of a row is that of its columns before the repair symbol.
-use Rattle.std.proofs.Common.{Fits, w8, rules, ◌≡◌, ℕ, zero, suc, ◌+◌, ◌-◌, ◌*◌, ◌<◌, ◌≤◌, List, [], ◌∷◌, ◌++◌, length, get_or, take, drop, replicate, All, refl, sym, ap, ap₂, ◌∙◌, subst, ⊎_elim, inl, inr, ◌⊎◌, arith, le_refl, add-one}
+use Rattle.std.proofs.Common.{Fits, w8, rules, ◌≡◌, ℕ, zero, suc, ◌+◌, ◌-◌, ◌*◌, ◌<◌, ◌≤◌, List, [], ◌∷◌, ◌++◌, length, get_or, take, drop, All, sym, ap, ap₂, ◌∙◌, ⊎_elim, inl, inr, ◌⊎◌, arith, add-one}
 use Rattle.std.proofs.lemmas.Bool.{cases_lt}
 use Rattle.std.proofs.Math.Seq.{take-suc, take-length}
 use Rattle.std.proofs.lemmas.List.{get_or_past}
 use Rattle.std.proofs.lemmas.List.Elements.{All-from_get_or}
-use Rattle.std.proofs.lemmas.List.Kept.{AllPairs-from_increasing}
-use Rattle.sparse_rows.specs.Symbol.{IsSymbol, xor, zero_symbol, xor_sum, symbols_of}
-use Rattle.sparse_rows.specs.Matrix.{Matrix, IsRow, HasShape, IsCode, row_of}
-use Rattle.sparse_rows.specs.Codeword.{symbol_at, IsAssignment, IsEncoded}
-use Rattle.sparse_rows.proofs.Planes.{HasLength, symbol_at_is, length_sum}
+use Rattle.sparse_rows.specs.Symbol.{xor, zero_symbol, xor_sum, symbols_of}
+use Rattle.sparse_rows.specs.Matrix.{Matrix, IsRow, IsCode, row_of}
+use Rattle.sparse_rows.specs.Codeword.{symbol_at, IsAssignment}
+use Rattle.sparse_rows.proofs.Planes.{symbol_at_is, length_sum}
 use Rattle.sparse_rows.proofs.Symbols.{length_symbols, symbol_is, symbol_room, symbols_are, xor_sum_push, symbol_xor_zero, piece}
 
 module _ (k last : ℕ) (row : List ℕ) (is : IsRow k last row) where

@@ -1,8 +1,12 @@
-//! Encoding and decoding one source block of a code. It stands on `sparse_rows`, whose definitions
-//! its contracts cite. Today it holds the encoder: `encode_block` gives the one codeword whose
-//! first k symbols are the source block.
+//! Encoding and decoding one source block of a code. It stands on `sparse_rows` and `peeling`,
+//! whose definitions its contracts cite. `encode_block` gives the one codeword whose first k
+//! symbols are the source block. `Core` takes encoding symbols in any order and rebuilds by
+//! peeling: it stands for exactly the symbols that arrived, and says when they clash.
 #![tactic(auto)]
 
+mod decoder_core;
 mod encode;
 
+pub use decoder_core::Core;
 pub use encode::{Coded, encode_block};
+pub use peeling::Arrival;

@@ -12,7 +12,7 @@ use Rattle.sparse_rows.specs.Codeword.{Arrival, Fits, positions}
 use Rattle.sparse_rows.specs.Closure.{Set, IsWithin, HasSameMembers, adding, closure, fresh, members}
 use Rattle.peeling.specs.Agree.{Agree}
 use Rattle.peeling.specs.Stands.{IsConsistent}
-use Rattle.peeling.proofs.Sets.{any_at, same_test, or_cases, or_first, or_second, rounds_hold, rounds_within, rounds_grow}
+use Rattle.peeling.proofs.Sets.{any_at, same_test, or_none, or_cases, or_first, or_second, rounds_hold, rounds_within, rounds_grow}
 use Rattle.peeling.proofs.Closure.{closure_rests}
 use Rattle.peeling.proofs.Determined.{symbols_agree}
 use Rattle.peeling.proofs.Flags.{members_same}
@@ -20,10 +20,6 @@ use Rattle.peeling.proofs.Flags.{members_same}
 -- the positions with one arrival more
 pub positions_push : (arrivals : List Arrival) (e : ℕ) (bytes : List ℕ) → positions (arrivals ++ (e, bytes) ∷ []) ≡ adding e (positions arrivals)
 positions_push arrivals e bytes = fun_ext (λ c. list_any-append (λ (a : Arrival). a.0 == c) arrivals ((e, bytes) ∷ []) ∙ ap (λ b. positions arrivals c || b) (or_none (e == c)))
-  where
-    or_none : (b : Bool) → (b || false) ≡ b
-    or_none true = refl
-    or_none false = refl
 
 push_length : (arrivals : List Arrival) (a : Arrival) → length (arrivals ++ a ∷ []) ≡ suc (length arrivals)
 push_length arrivals a = length-append arrivals (a ∷ []) ∙ omega arith

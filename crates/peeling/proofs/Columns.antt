@@ -18,6 +18,10 @@ column_below m code r lt i inside =
     let row : IsRow m.k (m.k + r) (row_of m r) = code.shape.row r (omega (arith, code.shape.count)) in
     let most : get_or (row_of m r) i 0 ≤ m.k + r = row.within i 0 inside in omega (arith, code.shape.count)
 
+-- a column that was read is a position
+pub column_read : (m : Matrix) → IsCode m → (r : ℕ) → r < m.n - m.k → (i c : ℕ) → i < length (row_of m r) → c ≡ get_or (row_of m r) i 0 → c < m.n
+column_read m code r lt i c inside is = omega (arith, is, column_below m code r lt i inside)
+
 -- one column more
 next : (row : List ℕ) (i : ℕ) → i < length row → take (i + 1) row ≡ take i row ++ get_or row i 0 ∷ []
 next row i lt = ap (λ (n : ℕ). take n row) (add-one i) ∙ take-suc row i 0 lt

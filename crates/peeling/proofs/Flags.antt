@@ -1,6 +1,6 @@
 -- Flags, as a set.
 use mathlib.Core.Path.{fun_ext}
-use Rattle.std.proofs.Common.{◌≡◌, ◌≢◌, ℕ, zero, suc, ◌+◌, ◌<◌, ⊎_elim, Bool, true, false, not, cond, ◌||◌, ◌&&◌, ◌==◌, List, [], ◌∷◌, ◌++◌, length, set, filter, replicate, refl, sym, ap, ap₂, ◌∙◌, subst, arith, eqb-true, eq-eqb, true≢false, get_or-set_other, get_or-set_same, ◌≤◌, append-nil}
+use Rattle.std.proofs.Common.{◌≡◌, ◌≢◌, ℕ, zero, suc, ◌+◌, ◌<◌, ⊎_elim, Bool, true, false, not, cond, ◌&&◌, ◌==◌, List, [], ◌∷◌, ◌++◌, length, set, filter, replicate, refl, sym, ap, ap₂, ◌∙◌, subst, arith, eqb-true, eq-eqb, true≢false, get_or-set_other, get_or-set_same, ◌≤◌, append-nil}
 use Rattle.std.proofs.lemmas.List.Sums.{sum_by-cons}
 use Rattle.std.specs.List.{range_with_len}
 use Rattle.std.proofs.lemmas.List.{map-id}
@@ -9,7 +9,7 @@ use Rattle.std.proofs.lemmas.List.FromFn.{filter_of_map_range_with_len_more, len
 use Rattle.sparse_rows.specs.Closure.{Set, HasSameMembers, members, adding}
 use Rattle.peeling.specs.Decoder.{flagged}
 use Rattle.peeling.specs.Peeled.{unset_count}
-use Rattle.peeling.proofs.Sets.{true_or_false}
+use Rattle.peeling.proofs.Sets.{true_or_false, or_none, or_true}
 
 -- one flag more
 pub flagged_set : (flags : List Bool) (e : ℕ) → e < length flags → flagged (set flags e true) ≡ adding e (flagged flags)
@@ -17,14 +17,6 @@ flagged_set flags e lt = fun_ext (λ c. ⊎_elim
     (λ h. let z : e ≡ c = eqb-true e c h in subst (λ d. flagged (set flags e true) d ≡ adding e (flagged flags) d) z (rw (get_or-set_same, eq-eqb e e refl) (sym (or_true (flagged flags e)))))
     (λ h. let ne : c ≢ e = λ z. true≢false (sym (eq-eqb e c (sym z)) ∙ h) in rw (get_or-set_other, h) (sym (or_none (flagged flags c))))
     (true_or_false (e == c)))
-  where
-    or_true : (b : Bool) → (b || true) ≡ true
-    or_true true = refl
-    or_true false = refl
-
-    or_none : (b : Bool) → (b || false) ≡ b
-    or_none true = refl
-    or_none false = refl
 
 -- no flags
 pub flagged_none : (n : ℕ) → flagged (replicate n false) ≡ (λ c. false)

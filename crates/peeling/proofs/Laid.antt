@@ -27,6 +27,12 @@ laid_is len n bytes long small = symbol_at_is len (symbols_of len n bytes) (symb
 pub laid_at : (len n : ℕ) (bytes : List ℕ) (c : ℕ) → c < n → laid len n bytes c ≡ piece len bytes c
 laid_at len n bytes c lt = symbol_is len n bytes c (zero_symbol len) lt
 
+pub piece_room : (len n : ℕ) (bytes : List ℕ) (c : ℕ) → length bytes ≡ n * len → c < n → c * len + len ≤ length bytes
+piece_room len n bytes c long lt = omega (arith, symbol_room len n c lt, long)
+
+pub piece_long : (len n : ℕ) (bytes : List ℕ) (c : ℕ) → length bytes ≡ n * len → c < n → length (piece len bytes c) ≡ len
+piece_long len n bytes c long lt = length-take-le len (drop (c * len) bytes) (omega (arith, length-drop (c * len) bytes, piece_room len n bytes c long lt))
+
 -- past the end they are zero
 pub laid_past : (len n : ℕ) (bytes : List ℕ) (c : ℕ) → n ≤ c → laid len n bytes c ≡ zero_symbol len
 laid_past len n bytes c le = get_or_past (symbols_of len n bytes) c (zero_symbol len) (omega (arith, length_symbols len n bytes))

@@ -9,3 +9,4 @@ pub mod Pass
 pub mod Arrivals
 pub mod Received
 pub mod Stored
+pub mod Decided

@@ -5,6 +5,7 @@ use Rattle.sparse_rows.specs.Matrix.{Matrix, IsCode, row_of}
 use Rattle.sparse_rows.specs.Closure.{HasSameMembers, round}
 use Rattle.peeling.specs.Decoder.{flagged}
 use Rattle.peeling.specs.Peeled.{laid, IsLaid, unset_count, IsAtRest, IsPeeled}
+use Rattle.peeling.proofs.Sets.{or_true}
 use Rattle.peeling.proofs.Peeled.{peeled_none, peeled_on, rows_rest}
 
 -- what holds once the first r rows were gone over
@@ -38,10 +39,6 @@ pass_on m code len first start known symbols rebuilt r more next true p h q less
       most = omega arith;
       rests = λ e. absurd (true≢false (sym (or_true rebuilt) ∙ e));
     }
-  where
-    or_true : (b : Bool) → (b || true) ≡ true
-    or_true true = refl
-    or_true false = refl
 pass_on m code len first start known symbols true r more next false p h q less rests =
     let same : more ≡ known = (rests refl).0 in
     record {

@@ -23,10 +23,6 @@ use Rattle.peeling.proofs.Arrivals.{positions_push, closure_adding, closure_repe
 abbrev pub laid_decoder : Matrix → ℕ → List Bool → List Bool → List ℕ → Bool → List ℕ → Decoder
 laid_decoder m len arrived known symbols clashed new = record { matrix = m; len = len; arrived = arrived; known = known; symbols = symbols_of len m.n symbols; clashed = clashed; fresh = new }
 
-or_true : (b : Bool) → (b || true) ≡ true
-or_true true = refl
-or_true false = refl
-
 -- where no clash is seen, there was none before and none is new
 no_clash_before : (old b : Bool) → (old || not b) ≡ false → old ≡ false
 no_clash_before true b e = e
@@ -41,9 +37,6 @@ module _ (m : Matrix) (code : IsCode m) (len : ℕ) (arrived known : List Bool) 
     (flags : length arrived ≡ m.n) (kept_is : IsLaid m.n len known symbols) (closed : HasSameMembers (flagged known) (closure m (flagged arrived))) (below : e < m.n) (is : IsSymbol len bytes) where
   abbrev old : Decoder
   old = laid_decoder m len arrived known symbols clashed old_fresh
-
-  x : ℕ → List ℕ
-  x = laid len m.n symbols
 
   with_flag : flagged (set arrived e true) ≡ adding e (flagged arrived)
   with_flag = flagged_set arrived e (rw flags below)
@@ -95,6 +88,7 @@ module _ (m : Matrix) (code : IsCode m) (len : ℕ) (arrived known : List Bool) 
       code = refl;
       len = refl;
       arrived = refl;
+      known = repeat_closed;
       fresh_is = sym (fresh_repeat m code.shape (flagged arrived) e inside);
       keeps = λ c f. refl;
       own = λ missing. absurd (true≢false (sym there ∙ missing));
@@ -107,9 +101,6 @@ module _ (m : Matrix) (code : IsCode m) (len : ℕ) (arrived known : List Bool) 
   module _ (missing : flagged known e ≡ false) (start : List ℕ) (start_is : start ≡ take (e * len) symbols ++ (bytes ++ drop (e * len + len) symbols)) (more : List Bool) (next : List ℕ)
       (more_is : IsLaid m.n len more next) (peeled : IsPeeled m len (flagged (set known e true)) (laid len m.n start) (flagged more) (laid len m.n next))
       (rests : HasSameMembers (round m (flagged more)) (flagged more)) (holds : Bool) (holds_is : IsTrue holds ↔ SumsToZeroWithin m len (flagged more) (laid len m.n next)) where
-    y : ℕ → List ℕ
-    y = laid len m.n next
-
     begun : laid len m.n start ≡ keeping e bytes (laid len m.n symbols)
     begun = ap (laid len m.n) start_is ∙ laid_put len m.n symbols bytes e kept_is.bytes is.long below
 
@@ -179,6 +170,7 @@ module _ (m : Matrix) (code : IsCode m) (len : ℕ) (arrived known : List Bool) 
       code = refl;
       len = refl;
       arrived = refl;
+      known = new_closed;
       fresh_is = listed ∙ ap (λ n. members n (λ c. flagged more c && not (flagged (set known e true) c))) more_is.flags
           ∙ fresh_is m (flagged arrived) (flagged known) (flagged more) (flagged (set known e true)) e closed (λ c. new_closed c ∙ ap (λ s. closure m s c) with_flag) (λ c. ap (λ s. s c) with_known);
       keeps = earlier;

@@ -1,9 +1,9 @@
 -- What contracts see of a decoder.
-use Rattle.std.specs.Prelude.{◌≡◌, ◌≤◌, ℕ, Bool, false, List, [], length, replicate, slice_index_or, All}
+use Rattle.std.specs.Prelude.{◌≡◌, ◌≤◌, ◌<◌, ◌&&◌, not, ℕ, Bool, true, false, List, [], length, replicate, slice_index_or, count_by, All}
 use Rattle.sparse_rows.specs.Symbol.{IsSymbol}
 use Rattle.sparse_rows.specs.Matrix.{Matrix, IsCode}
 use Rattle.sparse_rows.specs.Codeword.{symbol_at}
-use Rattle.sparse_rows.specs.Closure.{Set, HasSameMembers, closure}
+use Rattle.sparse_rows.specs.Closure.{Set, HasSameMembers, members, closure}
 
 -- the code and the length of a symbol; for each position whether it arrived, whether its symbol is kept, and the symbol;
 -- whether the arrivals were seen to contradict one another; and the positions that the last arrival rebuilt
@@ -20,9 +20,21 @@ pub record Decoder : Type 0 where
 abbrev pub flagged : List Bool → Set
 flagged flags position = slice_index_or flags position false
 
+-- how many flags are set
+abbrev pub set_count : List Bool → ℕ
+set_count flags = count_by (λ flag. flag) flags
+
+-- the positions whose flag is set now and was not before, rising
+abbrev pub new_positions : List Bool → List Bool → List ℕ
+new_positions before now = members (length now) (λ position. flagged now position && not (flagged before position))
+
 -- the symbol that is kept at a position
 abbrev pub kept : Decoder → ℕ → List ℕ
 kept d = symbol_at d.len d.symbols
+
+-- each source symbol is known
+abbrev pub HasAllSource : Decoder → Type 0
+HasAllSource d = (position : ℕ) → position < d.matrix.k → flagged d.known position ≡ true
 
 -- flags and a symbol for each position of a code; the known positions are the closure of those that arrived
 pub record IsDecoder (d : Decoder) : Type 0 where

@@ -47,10 +47,16 @@ abbrev pub KeptAreConsistent : Type 0
 KeptAreConsistent = (d : Decoder) (arrivals : List Arrival) (x : ℕ → List ℕ) → StandsFor d arrivals
     → IsConsistent d.matrix d.len arrivals x → Agree (flagged d.known) (kept d) x
 
--- the arrivals as a set, whatever their order and however often each came, decide which positions are known and, where
--- some codeword fits, their symbols
-abbrev pub ArrivalsDecide : Type 0
-ArrivalsDecide = (d other : Decoder) (arrivals others : List Arrival) → other.matrix ≡ d.matrix → other.len ≡ d.len → StandsFor d arrivals → StandsFor other others
-    → ((a : Arrival) → Contains arrivals a ↔ Contains others a)
-    → HasSameMembers (flagged d.known) (flagged other.known)
-    × ((word : List (List ℕ)) → IsCodeword d.matrix d.len word → Fits arrivals (symbol_at d.len word) → Agree (flagged d.known) (kept d) (kept other))
+-- the same arrivals, whatever their order and however often each came
+abbrev pub HasSameArrivals : List Arrival → List Arrival → Type 0
+HasSameArrivals arrivals others = (a : Arrival) → Contains arrivals a ↔ Contains others a
+
+-- decoders that stand for the same arrivals know the same positions
+abbrev pub ArrivalsDecideKnown : Type 0
+ArrivalsDecideKnown = (d other : Decoder) (arrivals others : List Arrival) → StandsFor d arrivals → StandsFor other others → HasSameArrivals arrivals others
+    → other.matrix ≡ d.matrix → HasSameMembers (flagged other.known) (flagged d.known)
+
+-- and, where some codeword fits, the same symbols
+abbrev pub ArrivalsDecideSymbols : Type 0
+ArrivalsDecideSymbols = (d other : Decoder) (arrivals others : List Arrival) (word : List (List ℕ)) → StandsFor d arrivals → StandsFor other others → HasSameArrivals arrivals others
+    → other.matrix ≡ d.matrix → other.len ≡ d.len → IsCodeword d.matrix d.len word → Fits arrivals (symbol_at d.len word) → Agree (flagged d.known) (kept d) (kept other)

@@ -1,9 +1,9 @@
 -- How far peeling has come.
-use Rattle.std.specs.Prelude.{◌≡◌, ◌≢◌, ◌*◌, ◌<◌, ℕ, Bool, false, not, List, [], ◌∷◌, length, count_by, All}
+use Rattle.std.specs.Prelude.{◌≡◌, ◌≢◌, ◌*◌, ◌<◌, ℕ, Bool, true, false, not, Option, Some, None, List, [], ◌∷◌, length, count_by, All}
 use Rattle.sparse_rows.specs.Symbol.{zero_symbol, symbols_of}
 use Rattle.sparse_rows.specs.Matrix.{Matrix}
-use Rattle.sparse_rows.specs.Codeword.{symbol_at, IsAssignment, SumsToZeroWithin}
-use Rattle.sparse_rows.specs.Closure.{Set, IsWithin, outside, closure}
+use Rattle.sparse_rows.specs.Codeword.{symbol_at, IsAssignment, SumsToZero, SumsToZeroWithin}
+use Rattle.sparse_rows.specs.Closure.{Set, IsWithin, HasSameMembers, outside, round, closure}
 use Rattle.peeling.specs.Agree.{Agree}
 use Rattle.peeling.specs.Decoder.{flagged}
 
@@ -26,10 +26,37 @@ unset_count flags = count_by not flags
 abbrev pub IsAtRest : Set → List ℕ → Type 0
 IsAtRest s row = (column : ℕ) → outside s row ≢ column ∷ []
 
--- from a set with the symbols x, peeling has come to a set with the symbols y: it holds the first and lies in its closure,
--- earlier symbols stay, and an assignment that agrees with x and makes each row within the closure sum to zero agrees with y
+-- the only column of the row outside the set, or none
+abbrev pub IsSingle : Set → List ℕ → Option ℕ → Type 0
+IsSingle s row None = IsAtRest s row
+IsSingle s row (Some column) = outside s row ≡ column ∷ []
+
+-- each column of the row has its flag set
+abbrev pub IsKnownRow : List Bool → List ℕ → Type 0
+IsKnownRow known row = All (λ column. flagged known column ≡ true) row
+
+-- if each column of the row has its flag set, its symbols sum to zero
+abbrev pub RowHolds : Matrix → ℕ → List Bool → List ℕ → List ℕ → Type 0
+RowHolds m len known symbols row = IsKnownRow known row → SumsToZero len (laid len m.n symbols) row
+
+-- the symbols of each row that is known sum to zero
+abbrev pub RowsHold : Matrix → ℕ → List Bool → List ℕ → Type 0
+RowsHold m len known symbols = SumsToZeroWithin m len (flagged known) (laid len m.n symbols)
+
+-- a round adds nothing to the known columns
+abbrev pub IsPeeledOut : Matrix → List Bool → Type 0
+IsPeeledOut m known = HasSameMembers (round m (flagged known)) (flagged known)
+
+-- from a set of columns with the symbols x, peeling has come to a set with the symbols y
 pub record IsPeeled (m : Matrix) (len : ℕ) (base : Set) (x : ℕ → List ℕ) (known : Set) (y : ℕ → List ℕ) : Type 0 where
+  -- which holds the first and lies in its closure
   pub holds : IsWithin base known
   pub within : IsWithin known (closure m base)
+  -- earlier symbols stay
   pub keeps : Agree base x y
+  -- what agrees with x and makes each row within the closure sum to zero agrees with y
   pub forced : (z : ℕ → List ℕ) → IsAssignment len z → SumsToZeroWithin m len (closure m base) z → Agree base x z → Agree known y z
+
+-- the same of flags, and symbols that lie one after the other
+abbrev pub PeelsTo : Matrix → ℕ → List Bool → List ℕ → List Bool → List ℕ → Type 0
+PeelsTo m len known symbols more next = IsPeeled m len (flagged known) (laid len m.n symbols) (flagged more) (laid len m.n next)

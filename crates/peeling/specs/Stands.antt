@@ -20,16 +20,22 @@ pub record StandsFor (d : Decoder) (arrivals : List Arrival) : Type 0 where
   pub agrees : d.clashed ≡ false → IsConsistent d.matrix d.len arrivals (kept d)
   pub contradicts : d.clashed ≡ true → (x : ℕ → List ℕ) → ¬ IsConsistent d.matrix d.len arrivals x
 
--- the new decoder is the old one with one arrival more: it stands for what the old one stood for and this arrival; the
--- position's flag is set; fresh are the positions that became known beside it; every symbol that was kept stays; a position
--- that wasn't known has the bytes; a repeat changes nothing but the flag, whether it is clashed, and what is fresh
+-- the new decoder is the old one with one arrival more
 pub record Receives (old new : Decoder) (position : ℕ) (bytes : List ℕ) : Type 0 where
+  -- it stands for what the old one stood for, and this arrival
   pub stands : (arrivals : List Arrival) → StandsFor old arrivals → StandsFor new (arrivals ++ (position, bytes) ∷ [])
-  pub code : new.matrix ≡ old.matrix
-  pub len : new.len ≡ old.len
+  -- the flag of the position is set, and the closure is known, whatever the bytes
   pub arrived : new.arrived ≡ slice_set old.arrived position true
+  pub known : HasSameMembers (flagged new.known) (closure old.matrix (flagged new.arrived))
+  -- what became known beside the position is fresh
   pub fresh_is : new.fresh ≡ fresh old.matrix (flagged old.arrived) position
+  -- every symbol that was kept stays, and a position that was not known has the bytes
   pub keeps : Agree (flagged old.known) (kept old) (kept new)
   pub own : flagged old.known position ≡ false → kept new position ≡ bytes
+  -- a repeat changes nothing but the flag, whether it is clashed, and what is fresh
   pub repeat : flagged old.known position ≡ true → new ≡ record old { arrived = new.arrived; clashed = new.clashed; fresh = [] }
+  -- a contradiction is never forgotten
   pub stays_clashed : old.clashed ≡ true → new.clashed ≡ true
+  -- the code and the length of a symbol stay
+  pub code : new.matrix ≡ old.matrix
+  pub len : new.len ≡ old.len

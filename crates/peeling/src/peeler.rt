@@ -1,6 +1,6 @@
 // The decoder.
-ghost use Rattle.std.specs.Prelude.{◌≡◌, ◌↔◌, ◌<◌, ◌≤◌, ℕ, true, false, [], IsTrue, IsSome, IfSome, IfOk, IfErr, length, count_by};
-ghost use Rattle.peeling.specs.Decoder.{flagged, kept, IsDecoder, IsEmpty};
+ghost use Rattle.std.specs.Prelude.{◌≡◌, ◌↔◌, ◌<◌, ◌≤◌, true, false, [], IsTrue, IsSome, IfSome, IfOk, IfErr, length};
+ghost use Rattle.peeling.specs.Decoder.{flagged, set_count, kept, HasAllSource, IsDecoder, IsEmpty};
 ghost use Rattle.peeling.specs.Stands.{StandsFor, Receives};
 ghost use Rattle.peeling.specs.Outcome.{IsOutcome};
 ghost use Rattle.peeling.specs.Blank.{IsBlank};
@@ -37,8 +37,18 @@ struct Store {
     sum: Vec<u8>,
 }
 
-/// A peeling decoder of one source block: it takes encoding symbols one by one, in any order, and
-/// rebuilds each symbol that is the only unknown one of some row.
+/// A peeling decoder of one source block of a sparse erasure code. It takes encoding symbols one by
+/// one, in any order, repeated or not and whatever their bytes, and rebuilds each symbol that is the
+/// only unknown one of some row of the parity check matrix.
+///
+/// The essence in four steps. A row whose symbols are all known but one gives that one, as the sum of
+/// the others. Repeated until no row gives anything, this makes known exactly the peeling closure of
+/// the positions that arrived. Each step is forced, so a rebuilt symbol is that of every codeword
+/// that fits the arrivals. What is left is a stopping set: no row has just one of its symbols, and
+/// more can follow by elimination alone.
+///
+/// This decoder goes over the rows in passes: for an arrival one, one more for each pass that rebuilt
+/// something, and one to test the rows, each over the entries of the whole matrix.
 #[derive(Drop)]
 pub struct Peeler {
     code: Code,
@@ -129,21 +139,21 @@ impl Peeler {
 
     /// How many positions are known, by arrival or by rebuilding.
     pub fn known_count(&self) -> u32
-        ensures { result ≡ count_by (λ flag. flag) self.now.known }
+        ensures { result ≡ set_count self.now.known }
     {
         count_set(&self.store.known)
     }
 
     /// How many different positions arrived.
     pub fn arrived_count(&self) -> u32
-        ensures { result ≡ count_by (λ flag. flag) self.now.arrived }
+        ensures { result ≡ set_count self.now.arrived }
     {
         count_set(&self.store.arrived)
     }
 
     /// Whether each source symbol is known.
     pub fn has_all_source(&self) -> bool
-        ensures { IsTrue result ↔ ((position : ℕ) → position < self.now.matrix.k → flagged self.now.known position ≡ true) }
+        ensures { IsTrue result ↔ HasAllSource self.now }
     {
         let k = self.code.k() as usize;
         self.store.known[..k].iter().all(|flag| *flag)
@@ -211,7 +221,7 @@ impl Peeler {
 // How many flags are set.
 fn count_set(flags: &[bool]) -> u32
     requires { length flags.now ≤ 65536 }
-    ensures { result ≡ count_by (λ flag. flag) flags.now }
+    ensures { result ≡ set_count flags.now }
 {
     flags.iter().filter(|flag| **flag).count() as u32
 }

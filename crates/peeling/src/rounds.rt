@@ -1,11 +1,9 @@
 // Peeling in rounds over the rows.
-ghost use Rattle.std.specs.Prelude.{◌≡◌, ◌↔◌, ◌<◌, ◌≤◌, ◌-◌, ◌*◌, ◌&&◌, not, true, false, IsTrue, length};
+ghost use Rattle.std.specs.Prelude.{◌≡◌, ◌↔◌, ◌<◌, ◌≤◌, ◌-◌, true, false, IsTrue, length};
 ghost use Rattle.std.specs.Vec.{vec_capacity};
 ghost use Rattle.sparse_rows.specs.Matrix.{IsCode, row_of};
-ghost use Rattle.sparse_rows.specs.Codeword.{SumsToZeroWithin};
-ghost use Rattle.sparse_rows.specs.Closure.{HasSameMembers, members, round};
-ghost use Rattle.peeling.specs.Decoder.{flagged};
-ghost use Rattle.peeling.specs.Peeled.{laid, IsLaid, unset_count, IsAtRest, IsPeeled};
+ghost use Rattle.peeling.specs.Decoder.{flagged, new_positions};
+ghost use Rattle.peeling.specs.Peeled.{IsLaid, unset_count, IsAtRest, IsPeeledOut, PeelsTo, RowsHold};
 
 use crate::rows::{only_unknown, row_holds, sum_row};
 use crate::symbols::put_symbol;
@@ -25,8 +23,8 @@ pub(crate) fn peel<L: Ledger>(
     requires laid { IsLaid code.now.n len known.old symbols.old }
     requires sum { length sum.old ≡ len }
     ensures laid { IsLaid code.now.n len known.new symbols.new }
-    ensures peeled { IsPeeled code.now len (flagged known.old) (laid len code.now.n symbols.old) (flagged known.new) (laid len code.now.n symbols.new) }
-    ensures rests { HasSameMembers (round code.now (flagged known.new)) (flagged known.new) }
+    ensures peeled { PeelsTo code.now len known.old symbols.old known.new symbols.new }
+    ensures rests { IsPeeledOut code.now known.new }
     ensures steps { steps.old ≤ steps.new }
 {
     while peel_rows(code, len, known, symbols, sum, steps) {}
@@ -45,9 +43,9 @@ fn peel_rows<L: Ledger>(
     requires laid { IsLaid code.now.n len known.old symbols.old }
     requires sum { length sum.old ≡ len }
     ensures laid { IsLaid code.now.n len known.new symbols.new }
-    ensures peeled { IsPeeled code.now len (flagged known.old) (laid len code.now.n symbols.old) (flagged known.new) (laid len code.now.n symbols.new) }
+    ensures peeled { PeelsTo code.now len known.old symbols.old known.new symbols.new }
     ensures rebuilt { result ≡ true → unset_count known.new < unset_count known.old }
-    ensures rests { result ≡ false → HasSameMembers (round code.now (flagged known.new)) (flagged known.new) }
+    ensures rests { result ≡ false → IsPeeledOut code.now known.new }
     ensures steps { steps.old ≤ steps.new }
 {
     let mut rebuilt = false;
@@ -72,9 +70,10 @@ fn peel_row<L: Ledger>(
     requires laid { IsLaid code.now.n len known.old symbols.old }
     requires sum { length sum.old ≡ len }
     ensures laid { IsLaid code.now.n len known.new symbols.new }
-    ensures peeled { IsPeeled code.now len (flagged known.old) (laid len code.now.n symbols.old) (flagged known.new) (laid len code.now.n symbols.new) }
+    ensures peeled { PeelsTo code.now len known.old symbols.old known.new symbols.new }
     ensures rebuilt { result ≡ true → unset_count known.new < unset_count known.old }
-    ensures rests { result ≡ false → (known.new ≡ known.old) × IsAtRest (flagged known.old) (row_of code.now r) }
+    ensures stays { result ≡ false → known.new ≡ known.old }
+    ensures rests { result ≡ false → IsAtRest (flagged known.old) (row_of code.now r) }
     ensures steps { steps.old ≤ steps.new }
 {
     let Some(column) = only_unknown(code, r, known, steps) else {
@@ -98,7 +97,7 @@ pub(crate) fn rows_hold<L: Ledger>(
     requires code { IsCode code.now }
     requires laid { IsLaid code.now.n len known.now symbols.now }
     requires sum { length sum.old ≡ len }
-    ensures value { IsTrue result ↔ SumsToZeroWithin code.now len (flagged known.now) (laid len code.now.n symbols.now) }
+    ensures value { IsTrue result ↔ RowsHold code.now len known.now symbols.now }
     ensures steps { steps.old ≤ steps.new }
 {
     for r in 0..code.n() - code.k() {
@@ -114,7 +113,7 @@ pub(crate) fn list_fresh(before: &[bool], known: &[bool], fresh: &mut Vec<u32>)
     requires few { length known.now ≤ 65536 }
     requires before { length before.now ≡ length known.now }
     requires room { length known.now ≤ vec_capacity fresh.old }
-    ensures value { fresh.new.items ≡ members (length known.now) (λ position. flagged known.now position && not (flagged before.now position)) }
+    ensures value { fresh.new.items ≡ new_positions before.now known.now }
     ensures room { vec_capacity fresh.new ≡ vec_capacity fresh.old }
 {
     fresh.clear();

@@ -1,11 +1,9 @@
 // What one row says of the symbols that are known.
-ghost use Rattle.std.specs.Prelude.{◌≡◌, ◌↔◌, ◌<◌, ◌≤◌, ◌-◌, ◌*◌, true, [], ◌∷◌, IsTrue, MatchOption, All, length};
+ghost use Rattle.std.specs.Prelude.{◌≡◌, ◌↔◌, ◌<◌, ◌≤◌, ◌-◌, ◌*◌, IsTrue, length};
 ghost use Rattle.sparse_rows.specs.Matrix.{IsCode, row_of};
 ghost use Rattle.sparse_rows.specs.Symbol.{xor_sum};
-ghost use Rattle.sparse_rows.specs.Closure.{outside};
 ghost use Rattle.peeling.specs.Decoder.{flagged};
-ghost use Rattle.sparse_rows.specs.Codeword.{SumsToZero};
-ghost use Rattle.peeling.specs.Peeled.{laid, IsLaid, IsAtRest};
+ghost use Rattle.peeling.specs.Peeled.{laid, IsLaid, IsSingle, IsKnownRow, RowHolds};
 
 use crate::symbols::{is_zero, symbol_at, xor_into};
 use fec_base::{Ledger, Steps};
@@ -21,7 +19,7 @@ pub(crate) fn only_unknown<L: Ledger>(
     requires code { IsCode code.now }
     requires row { r < code.now.n - code.now.k }
     requires known { length known.now ≡ code.now.n }
-    ensures one { MatchOption result (IsAtRest (flagged known.now) (row_of code.now r)) (λ column. outside (flagged known.now) (row_of code.now r) ≡ column ∷ []) }
+    ensures one { IsSingle (flagged known.now) (row_of code.now r) result }
     ensures steps { steps.old ≤ steps.new }
 {
     let mut found = None;
@@ -42,7 +40,7 @@ fn is_known<L: Ledger>(code: &Code, r: u32, known: &[bool], steps: &mut Steps<L>
     requires code { IsCode code.now }
     requires row { r < code.now.n - code.now.k }
     requires known { length known.now ≡ code.now.n }
-    ensures value { IsTrue result ↔ All (λ column. flagged known.now column ≡ true) (row_of code.now r) }
+    ensures value { IsTrue result ↔ IsKnownRow known.now (row_of code.now r) }
     ensures steps { steps.old ≤ steps.new }
 {
     for i in 0..code.row_len(r) {
@@ -91,7 +89,7 @@ pub(crate) fn row_holds<L: Ledger>(
     requires row { r < code.now.n - code.now.k }
     requires laid { IsLaid code.now.n len known.now symbols.now }
     requires sum { length sum.old ≡ len }
-    ensures value { IsTrue result ↔ (All (λ column. flagged known.now column ≡ true) (row_of code.now r) → SumsToZero len (laid len code.now.n symbols.now) (row_of code.now r)) }
+    ensures value { IsTrue result ↔ RowHolds code.now len known.now symbols.now (row_of code.now r) }
     ensures steps { steps.old ≤ steps.new }
 {
     if !is_known(code, r, known, steps) {

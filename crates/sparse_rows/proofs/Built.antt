@@ -1,7 +1,7 @@
 -- A matrix that is being built, with no column yet and with one column more.
-use Rattle.std.proofs.Common.{Result, Ok, Err, OnOk, OnErr, Bool, ◌≡◌, ℕ, zero, suc, ◌+◌, ◌-◌, ◌<◌, ◌≤◌, List, [], ◌∷◌, length, get_or, set, zero-le, replicate, map, All, refl, sym, ap, ◌∙◌, subst, arith, length-set}
+use Rattle.std.proofs.Common.{Result, Ok, Err, OnOk, OnErr, Bool, ◌≡◌, ℕ, zero, suc, ◌-◌, ◌<◌, ◌≤◌, List, [], ◌∷◌, length, get_or, set, zero-le, replicate, refl, sym, ap, ◌∙◌, subst, arith, length-set}
 use Rattle.std.proofs.lemmas.List.{length-replicate, length-map, map-set, get_or-map}
-use Rattle.std.proofs.lemmas.List.Elements.{All-replicate, All-nil, All-set, All-get_or}
+use Rattle.std.proofs.lemmas.List.Elements.{All-replicate, All-nil, All-set}
 use Rattle.fec_base.specs.declared.outside.NoMemory.{NoMemory}
 use Rattle.smallvec.specs.SmallVec.{SmallVec}
 use Rattle.sparse_rows.specs.Matrix.{Matrix, row_of, with_column, with_entry}

@@ -7,3 +7,4 @@ pub mod Encode
 pub mod Rising
 pub mod Built
 pub mod Flat
+pub mod Tested

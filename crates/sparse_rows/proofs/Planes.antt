@@ -1,11 +1,9 @@
 -- A sum of symbols is zero where the sum of their bytes is, at each place.
-use Rattle.std.proofs.Common.{⊎_elim, ◌≡◌, ℕ, zero, suc, ◌+◌, ◌%◌, ◌<◌, Bool, true, false, cond, List, [], ◌∷◌, length, get_or, All, count_by, refl, sym, ap, ◌∙◌, arith, bit_xor}
+use Rattle.std.proofs.Common.{⊎_elim, ◌≡◌, ℕ, zero, suc, ◌<◌, List, [], ◌∷◌, length, get_or, All, refl, sym, ap, ◌∙◌, arith, bit_xor}
 use Rattle.std.specs.Int.Bits.{xor_self, xor_zero_l, xor_assoc}
 use Rattle.std.proofs.lemmas.Nat.{xor_comm, xor_of_8}
-use Rattle.std.proofs.Math.Bool.{xor as bool_xor}
 use Rattle.std.proofs.lemmas.List.{ext_get_or, get_or_past}
 use Rattle.std.proofs.lemmas.List.Elements.{All-nil, All-cons, All-head, All-tail, All-replicate}
-use Rattle.std.proofs.lemmas.List.Sums.{sum_by-cons}
 use Rattle.std.proofs.lemmas.Bool.{cases_lt}
 use Rattle.sparse_rows.specs.Symbol.{IsSymbol, xor, zero_symbol, xor_sum}
 use Rattle.sparse_rows.specs.Codeword.{symbol_at, SumsToZero, IsAssignment}

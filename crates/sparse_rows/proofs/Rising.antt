@@ -1,6 +1,6 @@
 -- Rows whose columns rise, and a row with one column more.
-use Rattle.std.proofs.Common.{IfOk, is_ok, inl, inr, ◌⊎◌, count_by, zero-le, Result, Ok, Err, MatchResult, IfErr, ◌≡◌, ℕ, zero, suc, ◌+◌, ◌<◌, ◌≤◌, Bool, true, false, not, cond, ltb, lt-ltb, le-ltb, ltb-true, eqb, eq-eqb, ne_eqb, ◌||◌, ◌-◌, ⊎_elim, eq-or-lt_of_le, List, [], ◌∷◌, ◌++◌, length, get_or, take, drop, All, refl, sym, ap, ap₂, ◌∙◌, arith, add-one, suc-add, suc-le-suc, le_of_suc-le-suc, take-append-drop, drop-cons, append-nil, length-take, length-drop}
-use Rattle.std.specs.List.{filter, insert, list_any}
+use Rattle.std.proofs.Common.{IfOk, is_ok, inl, inr, ◌⊎◌, count_by, zero-le, Result, Ok, Err, MatchResult, IfErr, ◌≡◌, ℕ, zero, suc, ◌+◌, ◌<◌, ◌≤◌, Bool, true, false, cond, ltb, lt-ltb, le-ltb, ltb-true, eqb, eq-eqb, ne_eqb, ◌||◌, ◌-◌, ⊎_elim, eq-or-lt_of_le, List, [], ◌∷◌, ◌++◌, length, get_or, take, drop, All, refl, sym, ap, ap₂, ◌∙◌, arith, suc-add, take-append-drop, drop-cons, append-nil, length-take, length-drop}
+use Rattle.std.specs.List.{filter, insert}
 use Rattle.std.specs.List.Sorted.{IsStrictlyIncreasing}
 use Rattle.std.proofs.lemmas.List.{get_or-take, get_or-drop}
 use Rattle.std.proofs.lemmas.List.Elements.{All-head, All-tail, All-cons, All-append, All-filter, All-from_get_or, filter-append, filter_passes}

@@ -1,5 +1,5 @@
 -- What the shape of a matrix says of its rows.
-use Rattle.std.proofs.Common.{zero-le, le_of_eq, le_of_suc-le-suc, eq-or-lt_of_le, ◌≡◌, ℕ, zero, suc, ◌+◌, ◌<◌, ◌≤◌, ◌⊎◌, Bool, true, false, not, List, [], ◌∷◌, filter, length, get_or, All, Contains, sym, ap, arith, suc-add, ltb, lt-ltb, le-ltb, suc-le-suc}
+use Rattle.std.proofs.Common.{zero-le, le_of_eq, le_of_suc-le-suc, eq-or-lt_of_le, ◌≡◌, ℕ, zero, suc, ◌+◌, ◌<◌, ◌≤◌, ◌⊎◌, true, false, List, [], ◌∷◌, length, get_or, All, Contains, sym, ap, arith, suc-add, ltb, lt-ltb, le-ltb, suc-le-suc}
 use Rattle.std.specs.List.Sorted.{IsStrictlyIncreasing}
 use Rattle.std.proofs.lemmas.List.Elements.{All-tail}
 use Rattle.sparse_rows.specs.Matrix.{Matrix, HasShape}

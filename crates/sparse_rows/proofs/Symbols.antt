@@ -1,10 +1,9 @@
 -- Symbols that lie one after the other, and sums of one symbol more.
-use Rattle.std.proofs.Common.{◌≡◌, ℕ, zero, suc, ◌+◌, ◌*◌, ◌-◌, ◌<◌, ◌≤◌, List, [], ◌∷◌, ◌++◌, length, get_or, take, drop, map, All, refl, sym, ap, ap₂, ◌∙◌, arith, add-one, bit_xor, length-append, length-drop, length-take-le}
-use Rattle.std.specs.List.{range_with_len}
+use Rattle.std.proofs.Common.{◌≡◌, ℕ, zero, suc, ◌+◌, ◌*◌, ◌-◌, ◌<◌, ◌≤◌, List, [], ◌∷◌, ◌++◌, length, get_or, take, drop, All, refl, sym, ap, ◌∙◌, arith, bit_xor, length-drop, length-take-le}
 use Rattle.std.specs.Int.Bits.{xor_zero_l, xor_assoc}
 use Rattle.std.proofs.Math.Nat.{mul-le-mul_right}
 use Rattle.std.proofs.lemmas.Nat.{xor_comm}
-use Rattle.std.proofs.lemmas.List.{ext_get_or, get_or_past, get_or-take, get_or-drop, drop-take}
+use Rattle.std.proofs.lemmas.List.{ext_get_or, drop-take}
 use Rattle.std.proofs.lemmas.List.Elements.{All-take, All-drop, All-from_get_or}
 use Rattle.std.proofs.lemmas.List.FromFn.{length-map-range_with_len, get_or-map-range_with_len, map-range_with_len_more}
 use Rattle.sparse_rows.specs.Symbol.{IsSymbol, xor, zero_symbol, xor_sum, symbols_of}

@@ -1,8 +1,8 @@
 -- How the types of this crate keep a matrix.
-use Rattle.std.specs.Prelude.{◌≡◌, ℕ, ◌+◌, ◌-◌, ◌<◌, ◌≤◌, List, [], ◌∷◌, length, map, take, drop, slice_index, slice_index_or, All}
+use Rattle.std.specs.Prelude.{◌≡◌, ℕ, ◌+◌, ◌-◌, ◌<◌, ◌≤◌, List, [], ◌∷◌, length, map, take, drop, slice_index, All}
 use Rattle.std.specs.List.Sorted.{IsStrictlyIncreasing}
 use Rattle.smallvec.specs.SmallVec.{SmallVec}
-use Rattle.sparse_rows.specs.Matrix.{Matrix, HasShape, IsCode}
+use Rattle.sparse_rows.specs.Matrix.{Matrix, IsCode}
 
 -- a row that is being built: its columns rise and lie below n
 pub record IsRising (n : ℕ) (row : List ℕ) : Type 0 where

@@ -12,3 +12,6 @@ mod laws;
 pub use builder::RowsBuilder;
 pub use code::Code;
 pub use laws::one_codeword_for_each_source;
+
+#[cfg(test)]
+mod tests;

@@ -1,4 +1,4 @@
-use Rattle.std.proofs.Common.{◌<◌, ◌^◌, arith, rules, true≢false, sym, ◌∙◌}
+use Rattle.std.proofs.Common.{◌<◌, ◌^◌, arith, true≢false, sym, ◌∙◌}
 use Rattle.eperftool.proofs.Words.{spelled_asks}
 use Rattle.eperftool.proofs.command.read_words.Goals as goal
 

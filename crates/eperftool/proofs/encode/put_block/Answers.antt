@@ -1,4 +1,4 @@
-use Rattle.std.proofs.Common.{◌≡◌, ◌++◌, ◌+◌, ◌<◌, List, [], ℕ, length, get_or, take, drop, subst, sym, ap, ◌∙◌, arith, rules}
+use Rattle.std.proofs.Common.{◌++◌, ◌<◌, List, [], ℕ, length, get_or, take, subst, sym, arith, rules}
 use Rattle.fec_base.specs.Bytes.{AppendsFront}
 use Rattle.eperftool.specs.Staged.{PassesOn}
 use Rattle.eperftool.specs.File.{packet, block_packets}

@@ -1,4 +1,4 @@
-use Rattle.std.proofs.Common.{◌++◌, ◌+◌, ◌*◌, ◌^◌, List, ℕ, subst}
+use Rattle.std.proofs.Common.{◌++◌, ◌+◌, ◌*◌, ◌^◌, subst}
 use Rattle.byteorder.specs.Endian.{big_bytes}
 use Rattle.fec_base.specs.Bytes.{AppendsFront}
 use Rattle.eperftool.specs.Staged.{PassesOn}

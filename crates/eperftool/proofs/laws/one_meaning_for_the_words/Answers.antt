@@ -1,4 +1,4 @@
-use Rattle.std.proofs.Common.{◌<◌, ◌^◌, arith}
+use Rattle.std.proofs.Common.{arith}
 use Rattle.eperftool.proofs.Words.{spelled_one}
 use Rattle.eperftool.proofs.laws.one_meaning_for_the_words.Goals as goal
 

@@ -1,4 +1,4 @@
-use Rattle.std.proofs.Common.{◌≡◌, ◌+◌, ◌-◌, ◌*◌, ◌<◌, ◌≤◌, ℕ, length, get_or, take, drop, sym, ap, ◌∙◌, subst, arith, length-take-le, length-drop}
+use Rattle.std.proofs.Common.{◌≡◌, ◌+◌, ◌-◌, ◌*◌, ◌<◌, ◌≤◌, ℕ, length, take, drop, sym, ap, ◌∙◌, arith, length-take-le, length-drop}
 use Rattle.sparse_rows.proofs.Planes.{length_zero}
 use Rattle.sparse_rows.specs.Matrix.{row_of}
 use Rattle.fec_session.proofs.Rows.{bytes_small, code_row, row_some, row_room, row_more, row_whole}

@@ -1,7 +1,6 @@
-use Rattle.std.proofs.Common.{◌≡◌, ◌<◌, ◌+◌, ◌*◌, ◌-◌, ℕ, List, length, take, drop, refl, sym, ap, ◌∙◌, arith}
+use Rattle.std.proofs.Common.{◌≡◌, ◌<◌, ◌+◌, ◌*◌, ◌-◌, ℕ, length, take, drop, refl, ap, ◌∙◌, arith}
 use Rattle.sparse_rows.specs.Symbol.{symbols_of}
 use Rattle.sparse_rows.proofs.Planes.{length_zero}
-use Rattle.fec_session.proofs.Rows.{bytes_small}
 use Rattle.fec_session.proofs.Filled.{place_zero, filled_long, filled_word, filled_zero, all_filled}
 use Rattle.fec_session.proofs.encode.fill_repair.Goals as goal
 

@@ -10,7 +10,7 @@ loop-r-preserved g c =
     let row = c.peel_row-rebuilt in
     record {
       pass = pass_on c.args.code.now c.requires.code c.args.len c.args.known.now c.args.symbols.now c.loop-r.known c.loop-r.symbols c.loop-r.rebuilt c.loop-r.r
-          row.new.known row.new.symbols row.result c.loop-r.invariant.pass row.ensures.laid row.ensures.peeled row.ensures.rebuilt row.ensures.rests;
+          row.new.known row.new.symbols row.result c.loop-r.invariant.pass row.ensures.laid row.ensures.peeled row.ensures.rebuilt (λ none. (row.ensures.stays none, row.ensures.rests none));
       steps = omega (arith, row.ensures.steps, c.loop-r.invariant.steps);
     }
 

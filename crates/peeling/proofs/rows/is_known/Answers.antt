@@ -1,13 +1,14 @@
 use Rattle.std.proofs.Common.{◌≡◌, ◌<◌, ℕ, List, true, All, length, refl, subst, arith}
 use Rattle.sparse_rows.specs.Matrix.{row_of}
 use Rattle.peeling.specs.Decoder.{flagged}
-use Rattle.peeling.proofs.Columns.{column_below, all_more, all_read}
+use Rattle.peeling.proofs.Columns.{column_read, all_more, all_read}
 use Rattle.peeling.proofs.rows.is_known.Goals as goal
 
 pub bounds-known-column : goal.bounds-known-column
 bounds-known-column g c =
     let before : c.loop-i.i < length (row_of c.args.code.now c.args.r) = omega (arith, c.row_len-i-end.ensures) in
-    omega (arith, c.row_entry-column.ensures.value, column_below c.args.code.now c.requires.code c.args.r c.requires.row c.loop-i.i before, c.requires.known)
+    let below : c.row_entry-column.result < c.args.code.now.n = column_read c.args.code.now c.requires.code c.args.r c.requires.row c.loop-i.i c.row_entry-column.result before c.row_entry-column.ensures.value in
+    omega (arith, below, c.requires.known)
 
 pub loop-i-preserved : goal.loop-i-preserved
 loop-i-preserved g c =

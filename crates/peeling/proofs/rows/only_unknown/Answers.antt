@@ -1,13 +1,14 @@
 use Rattle.std.proofs.Common.{◌<◌, length, sym, ◌∙◌, arith}
 use Rattle.sparse_rows.specs.Matrix.{row_of}
 use Rattle.peeling.specs.Decoder.{flagged}
-use Rattle.peeling.proofs.Columns.{column_below, two_outside}
+use Rattle.peeling.proofs.Columns.{column_read, two_outside}
 use Rattle.peeling.proofs.rows.only_unknown.Goals as goal
 
 pub bounds-known-column : goal.bounds-known-column
 bounds-known-column g c =
     let before : c.loop-i.i < length (row_of c.args.code.now c.args.r) = omega (arith, c.row_len-i-end.ensures) in
-    omega (arith, c.row_entry-column.ensures.value, column_below c.args.code.now c.requires.code c.args.r c.requires.row c.loop-i.i before, c.requires.known)
+    let below : c.row_entry-column.result < c.args.code.now.n = column_read c.args.code.now c.requires.code c.args.r c.requires.row c.loop-i.i c.row_entry-column.result before c.row_entry-column.ensures.value in
+    omega (arith, below, c.requires.known)
 
 pub returns-then-is_some-clause-one : goal.returns-then-is_some-clause-one
 returns-then-is_some-clause-one g c =

@@ -1,5 +1,5 @@
-use Rattle.std.proofs.Common.{◌≡◌, ℕ, not, ap, sym, ◌∙◌, subst}
-use Rattle.sparse_rows.proofs.Rising.{with_column_held, insert-is_with_column, has_column_between, has_column_held, Below, Above}
+use Rattle.std.proofs.Common.{not, ap, sym, ◌∙◌}
+use Rattle.sparse_rows.proofs.Rising.{with_column_held, insert-is_with_column, has_column_between}
 use Rattle.sparse_rows.proofs.builder.insert_column.Goals as goal
 
 pub returns-in-Ok-clause-ok : goal.returns-in-Ok-clause-ok

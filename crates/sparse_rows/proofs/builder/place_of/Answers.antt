@@ -1,4 +1,4 @@
-use Rattle.std.proofs.Common.{◌≡◌, ◌<◌, ◌-◌, ℕ, length, take, All, get_or, sym, ◌∙◌, subst, ltb-true, le_refl, arith}
+use Rattle.std.proofs.Common.{◌≡◌, ◌<◌, ◌-◌, length, get_or, sym, subst, ltb-true, le_refl, arith}
 use Rattle.std.proofs.lemmas.List.{take_all, get_or_read}
 use Rattle.std.proofs.lemmas.List.Sorted.{searched}
 use Rattle.sparse_rows.proofs.Rising.{Below, rising_places, below_last, not_found_below, not_found_above}

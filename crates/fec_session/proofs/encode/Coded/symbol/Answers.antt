@@ -1,5 +1,4 @@
-use Rattle.std.proofs.Common.{◌≡◌, ◌+◌, ◌*◌, ◌≤◌, ℕ, List, length, get_or, sym, ap, ◌∙◌, arith}
-use Rattle.sparse_rows.specs.Symbol.{symbols_of}
+use Rattle.std.proofs.Common.{◌∙◌}
 use Rattle.fec_session.proofs.Rows.{laid_room, laid_at}
 use Rattle.fec_session.proofs.encode.Coded.symbol.Goals as goal
 

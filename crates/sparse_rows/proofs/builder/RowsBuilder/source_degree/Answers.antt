@@ -1,4 +1,4 @@
-use Rattle.std.proofs.Common.{◌≡◌, ◌≤◌, ℕ, List, length, count_by, nat_lt, ap, ◌∙◌, arith, ◌⊎◌}
+use Rattle.std.proofs.Common.{◌≤◌, ℕ, length, count_by, nat_lt, ap, ◌∙◌, arith}
 use Rattle.sparse_rows.proofs.Rising.{place_counts}
 use Rattle.sparse_rows.proofs.Built.{short_row}
 use Rattle.sparse_rows.proofs.builder.RowsBuilder.source_degree.Goals as goal

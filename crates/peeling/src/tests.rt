@@ -1,0 +1,165 @@
+ghost use Rattle.std.specs.Prelude.{◌≡◌, ◌<◌, ◌≤◌, ◌-◌, OnOk, IfOk};
+ghost use Rattle.sparse_rows.specs.Matrix.{with_entry};
+
+use crate::{Arrival, Peeler};
+use fec_base::{NoMemory, Steps, Tally};
+use sparse_rows::{Code, RowsBuilder};
+use std::alloc::Global;
+use std::process::Abort;
+use std::test::Fail;
+
+// Three source and four repair symbols of one byte. The rows are 0 1 3, 1 3 4, 2 4 5 and 0 2 6, here
+// as sets of bits, and the word is the codeword of the source 01 02 04.
+const ROWS: [u32; 4] = [0b0001011, 0b0011010, 0b0110100, 0b1000101];
+
+const WORD: [u8; 7] = [1, 2, 4, 3, 1, 5, 5];
+
+fn put_row(b: &mut RowsBuilder, r: u32, first: u32, second: u32, third: u32) -> Result<(), NoMemory>
+    requires row { r < b.old.n - b.old.k }
+    requires first { first < b.old.n }
+    requires second { second < b.old.n }
+    requires third { third < b.old.n }
+    ensures { OnOk result (b.new ≡ with_entry (with_entry (with_entry b.old r first) r second) r third) }
+{
+    b.insert(r, first)?;
+    b.insert(r, second)?;
+    b.insert(r, third)?;
+    Ok(())
+}
+
+fn small_code(alloc: Global) -> Result<Code, NoMemory>
+    ensures { IfOk result (λ code. code.n ≡ 7) }
+{
+    let mut b = RowsBuilder::new(alloc, 3, 7)?;
+    put_row(&mut b, 0, 0, 1, 3)?;
+    put_row(&mut b, 1, 1, 3, 4)?;
+    put_row(&mut b, 2, 2, 4, 5)?;
+    put_row(&mut b, 3, 0, 2, 6)?;
+    Code::from_builder(alloc, b)
+}
+
+fn decoder(alloc: Global) -> Result<Peeler, NoMemory>
+    ensures n { IfOk result (λ d. d.matrix.n ≡ 7) }
+    ensures len { IfOk result (λ d. d.len ≡ 1) }
+{
+    match Peeler::new(alloc, small_code(alloc)?, 1) {
+        Ok(d) => Ok(d),
+        Err((_code, refused)) => Err(refused),
+    }
+}
+
+fn take(d: &mut Peeler, e: u32, byte: u8) -> Arrival
+    requires position { e < d.old.matrix.n }
+    requires len { d.old.len ≡ 1 }
+    ensures code { d.new.matrix ≡ d.old.matrix }
+    ensures len { d.new.len ≡ d.old.len }
+{
+    let mut steps = Steps::<Tally>::start();
+    d.arrive(e, &[byte], &mut steps)
+}
+
+// The closure, by its definition: seven rounds over all rows at once.
+fn closure_of(set: u32) -> u32 {
+    let mut known = set;
+    for _ in 0..7 {
+        let mut next = known;
+        for row in ROWS {
+            let outside = row & !known;
+            if outside.count_ones() == 1 {
+                next |= outside;
+            }
+        }
+        known = next;
+    }
+    known
+}
+
+// The known positions, and whether each has its byte of the word.
+fn known_of(d: &Peeler) -> (u32, bool)
+    requires { d.now.matrix.n ≡ 7 }
+{
+    let mut known = 0;
+    let mut right = true;
+    for e in 0..7u32 {
+        if let Some(bytes) = d.symbol(e) {
+            known |= 1 << e;
+            right = right && bytes == &WORD[e as usize..e as usize + 1];
+        }
+    }
+    (known, right)
+}
+
+fn set_of(positions: &[u32]) -> u32 {
+    let mut set = 0;
+    for e in positions {
+        if *e < 7 {
+            set |= 1 << *e;
+        }
+    }
+    set
+}
+
+fn check(rt: &impl Abort, d: &Peeler, e: u32, before: u32, arrived: u32)
+    requires n { d.now.matrix.n ≡ 7 }
+    requires position { e < 7 }
+{
+    let closure = closure_of(arrived);
+    assert!(rt; known_of(d) == (closure, true));
+    assert!(rt; set_of(d.fresh()) == closure & !closure_of(before) & !(1 << e));
+    assert!(rt; d.known_count() == closure.count_ones());
+    assert!(rt; d.arrived_count() == arrived.count_ones());
+    assert!(rt; d.has_all_source() == (closure & 0b111 == 0b111));
+    assert!(rt; !d.clashed());
+}
+
+// The positions of the set arrive in the order 0, step, 2 * step ..
+fn check_order(rt: &impl Abort, alloc: Global, set: u32, step: u32) -> Result<(), NoMemory>
+    requires { step < 7 }
+{
+    let mut d = decoder(alloc)?;
+    let mut arrived = 0;
+    for i in 0..7u32 {
+        let e = i * step % 7;
+        if set >> e & 1 == 1 {
+            let before = arrived;
+            arrived |= 1 << e;
+            let _ = take(&mut d, e, WORD[e as usize]);
+            check(rt, &d, e, before, arrived);
+        }
+    }
+    Ok(())
+}
+
+#[test]
+fn each_set_of_positions_is_peeled_to_its_closure(rt: HostRuntime) -> Result<(), Fail> {
+    for set in 0..128 {
+        check_order(&rt, rt.alloc(), set, 1)?;
+        check_order(&rt, rt.alloc(), set, 3)?;
+        check_order(&rt, rt.alloc(), set, 6)?;
+    }
+    Ok(())
+}
+
+#[test]
+fn a_repeat_says_whether_its_bytes_are_kept(rt: HostRuntime) -> Result<(), Fail> {
+    let mut d = decoder(rt.alloc())?;
+    assert!(rt; take(&mut d, 0, 1) == Arrival::Fresh);
+    assert!(rt; take(&mut d, 0, 1) == Arrival::Repeat { same: true });
+    assert!(rt; !d.clashed());
+    assert!(rt; take(&mut d, 0, 9) == Arrival::Repeat { same: false });
+    assert!(rt; d.clashed());
+    assert!(rt; known_of(&d) == (1, true));
+    assert!(rt; d.arrived_count() == 1);
+    Ok(())
+}
+
+#[test]
+fn a_row_that_does_not_sum_to_zero_is_a_contradiction(rt: HostRuntime) -> Result<(), Fail> {
+    let mut d = decoder(rt.alloc())?;
+    assert!(rt; take(&mut d, 0, 1) == Arrival::Fresh);
+    assert!(rt; take(&mut d, 4, 9) == Arrival::Fresh);
+    assert!(rt; !d.clashed());
+    assert!(rt; take(&mut d, 1, 2) == Arrival::Fresh);
+    assert!(rt; d.clashed());
+    Ok(())
+}

@@ -1,0 +1,11 @@
+pub mod FirstDraw
+pub mod Counted
+pub mod Filled
+pub mod Blocked
+pub mod Turns
+pub mod InOrder
+pub mod Columns
+pub mod Gains
+pub mod Extended
+pub mod Whole
+pub mod RightSide

@@ -1,0 +1,4 @@
+pub mod Pick
+pub mod LeftSide
+pub mod Choices
+pub mod Staircase

@@ -1,0 +1,80 @@
+use super::*;
+use fec_base::{Steps, Tally};
+use park_miller::{Draws, ParkMiller};
+use sparse_rows::Code;
+use std::process::Abort;
+use std::test::Fail;
+
+// Row r of the code has these columns and no others.
+fn check_row(rt: &impl Abort, code: &Code, r: u32, columns: &[u32]) {
+    assert!(rt; r < code.n() - code.k());
+    assert_eq!(rt; code.row_len(r) as usize, columns.len());
+    let mut steps = Steps::<Tally>::start();
+    for (i, column) in columns.iter().enumerate() {
+        assert!(rt; (i as u32) < code.row_len(r));
+        assert_eq!(rt; code.row_entry(r, i as u32, &mut steps), *column);
+    }
+}
+
+#[test]
+fn builds_the_staircase_of_three_and_four(rt: HostRuntime) -> Result<(), Fail> {
+    let built = staircase(rt.alloc(), 3, 7, 3, 1, 12)?;
+    assert_eq!(rt; built.draws, 12);
+    assert_eq!(rt; built.code.entries(), 16);
+    check_row(&rt, &built.code, 0, &[0, 2, 3]);
+    check_row(&rt, &built.code, 1, &[1, 2, 3, 4]);
+    check_row(&rt, &built.code, 2, &[0, 1, 2, 4, 5]);
+    check_row(&rt, &built.code, 3, &[0, 1, 5, 6]);
+    Ok(())
+}
+
+#[test]
+fn refuses_one_draw_less(rt: HostRuntime) {
+    let refusal = staircase(rt.alloc(), 3, 7, 3, 1, 11).err();
+    assert_eq!(rt; refusal, Some(BuildRefusal::DrawLimit));
+}
+
+// Whatever the limit, the draws up to it are made, and the twelfth ends the left side.
+#[test]
+fn uses_each_draw_up_to_the_limit(rt: HostRuntime) -> Result<(), Fail> {
+    for limit in 0..12 {
+        let mut g = Draws::new(ParkMiller::new(1)?, limit);
+        let refusal = left(rt.alloc(), 3, 7, 3, &mut g).err();
+        assert_eq!(rt; refusal, Some(BuildRefusal::DrawLimit));
+        assert_eq!(rt; g.used(), limit);
+    }
+    let mut g = Draws::new(ParkMiller::new(1)?, 100);
+    let rows = left(rt.alloc(), 3, 7, 3, &mut g)?;
+    assert!(rt; rows.has(2, 2));
+    assert_eq!(rt; g.used(), 12);
+    assert_eq!(rt; g.into_generator().state(), 1_115_438_165);
+    Ok(())
+}
+
+#[test]
+fn puts_each_source_symbol_into_all_of_three_rows(rt: HostRuntime) -> Result<(), Fail> {
+    let built = staircase(rt.alloc(), 4, 7, 3, 1, 1000)?;
+    check_row(&rt, &built.code, 0, &[0, 1, 2, 3, 4]);
+    check_row(&rt, &built.code, 1, &[0, 1, 2, 3, 4, 5]);
+    check_row(&rt, &built.code, 2, &[0, 1, 2, 3, 5, 6]);
+    Ok(())
+}
+
+#[test]
+fn gives_a_single_source_symbol_no_second_extra_column(rt: HostRuntime) -> Result<(), Fail> {
+    let built = staircase(rt.alloc(), 1, 5, 3, 1, 1000)?;
+    assert_eq!(rt; built.draws, 4);
+    check_row(&rt, &built.code, 0, &[0, 1]);
+    check_row(&rt, &built.code, 1, &[0, 1, 2]);
+    check_row(&rt, &built.code, 2, &[0, 2, 3]);
+    check_row(&rt, &built.code, 3, &[0, 3, 4]);
+    Ok(())
+}
+
+#[test]
+fn draws_nothing_where_all_symbols_are_source(rt: HostRuntime) -> Result<(), Fail> {
+    let built = staircase(rt.alloc(), 3, 3, 3, 1, 0)?;
+    assert_eq!(rt; built.draws, 0);
+    assert_eq!(rt; built.code.entries(), 0);
+    Ok(())
+}
