@@ -1,5 +1,5 @@
 -- What a `decode` does.
-use Rattle.std.specs.Prelude.{◌≡◌, ◌≢◌, ◌≤◌, ◌<◌, ℕ, ◌+◌, ◌⊎◌, List, [], ◌∷◌, ◌++◌, length, take, All, Option, None, Some, true, false, ⊤, codes}
+use Rattle.std.specs.Prelude.{◌≡◌, ◌≢◌, ◌≤◌, ◌<◌, ℕ, ◌+◌, ◌*◌, ◌⊎◌, List, [], ◌∷◌, ◌++◌, length, take, All, Option, None, Some, true, false, ⊤, codes}
 use Rattle.std.specs.Fmt.{decimal}
 use Rattle.std.specs.List.{flat_map, range_with_len}
 use Rattle.std.specs.Io.KnownBytes.{Consumes, IsAtEnd}
@@ -56,23 +56,27 @@ pub record Decodes (left left_now : Option (List ℕ)) (outcome : BlockOutcome) 
   pub determined : Determines options transfer_length arrivals outcome object
   pub report_is : report ≡ decode_report outcome (length arrivals)
 
--- what is kept of a file while it is read: a decoder of its block that stands for the packets so far, or none where it has no block
-pub record IsDecoderOf (o : EncodeOptions) (transfer_length : ℕ) (arrivals : List Arrival) (d : Decoder) : Type 0 where
+-- a decoder is one for the block of the file's object
+pub record IsDecoderFor (o : EncodeOptions) (transfer_length : ℕ) (d : Decoder) : Type 0 where
   pub some : 1 ≤ transfer_length
   pub matrix : d.matrix ≡ file_matrix o transfer_length
   pub len : d.len ≡ o.symbol
-  pub stands : StandsFor d arrivals
 
--- the decoder, where the file has a block
-abbrev pub KeepsDecoder : EncodeOptions → ℕ → List Arrival → Option Decoder → Type 0
-KeepsDecoder o transfer_length arrivals None = transfer_length ≡ 0
-KeepsDecoder o transfer_length arrivals (Some d) = IsDecoderOf o transfer_length arrivals d
+-- the decoder of a file's object, which has one exactly where it has bytes
+abbrev pub IsFor : EncodeOptions → ℕ → Option Decoder → Type 0
+IsFor o transfer_length None = transfer_length ≡ 0
+IsFor o transfer_length (Some d) = IsDecoderFor o transfer_length d
+
+-- the decoder, where there is one, stands for these arrivals
+abbrev pub StandsForAll : List Arrival → Option Decoder → Type 0
+StandsForAll arrivals None = ⊤
+StandsForAll arrivals (Some d) = StandsFor d arrivals
 
 -- packets were taken from the input: a decoder of those before is now one of those before and of these
 pub record TakesPackets (left left_now : Option (List ℕ)) (o : EncodeOptions) (transfer_length : ℕ) (decoder decoder_now : Option Decoder) (arrivals : List Arrival) : Type 0 where
   pub packets : All (IsPacketOf o transfer_length) arrivals
   pub taken : Consumes left left_now (spelled arrivals)
-  pub decoders : (before : List Arrival) → KeepsDecoder o transfer_length before decoder → KeepsDecoder o transfer_length (before ++ arrivals) decoder_now
+  pub stands : (before : List Arrival) → StandsForAll before decoder → StandsForAll (before ++ arrivals) decoder_now
 
 -- behind a file's header the input was read to its end, and it is the file's packets, which a decoder takes in
 pub record ReadsPackets (left left_now : Option (List ℕ)) (o : EncodeOptions) (transfer_length : ℕ) (decoder decoder_now : Option Decoder) (count : ℕ) (arrivals : List Arrival) : Type 0 where
@@ -90,7 +94,8 @@ ReadsNoPackets left left_now o transfer_length = (bytes : List ℕ) × Consumes 
 pub record IsReceived (left left_now : Option (List ℕ)) (r : Received) (arrivals : List Arrival) : Type 0 where
   pub file : ReadsFile left left_now r.header.options r.header.transfer_length arrivals
   pub counted : r.packets ≡ length arrivals
-  pub decoder : KeepsDecoder r.header.options r.header.transfer_length arrivals r.decoder
+  pub decoder : IsFor r.header.options r.header.transfer_length r.decoder
+  pub stands : StandsForAll arrivals r.decoder
 
 -- what was taken from the input is no packet of the file: it is cut short by the input's end, or as long as a packet and no packet of the file
 abbrev pub TakesNoPacket : Option (List ℕ) → Option (List ℕ) → EncodeOptions → ℕ → Type 0
@@ -109,10 +114,23 @@ ComesOut (Some d) Peeled = (d.clashed ≡ false) × HasAllSource d
 ComesOut (Some d) Stuck = (d.clashed ≡ false) × ¬ HasAllSource d
 ComesOut (Some d) Contradicted = d.clashed ≡ true
 
--- the bytes that a decoder keeps of an object of some length: its source symbols one after the other, cut to that length
-abbrev pub kept_object : Decoder → ℕ → List ℕ
-kept_object d size = take size (flat_map (λ position. kept d position) (range_with_len 0 d.matrix.k))
+-- the source symbols that a decoder keeps, one after the other, cut to the object's length
+abbrev pub source_bytes : Decoder → ℕ → List ℕ
+source_bytes d size = take size (flat_map (kept d) (range_with_len 0 d.matrix.k))
 
-abbrev pub object_kept : Option Decoder → ℕ → List ℕ
-object_kept None size = []
-object_kept (Some d) size = kept_object d size
+-- the bytes that are kept of an object: none where it has no block
+abbrev pub kept_object : Option Decoder → ℕ → List ℕ
+kept_object None size = []
+kept_object (Some d) size = source_bytes d size
+
+-- a decoder has the room of the object, and its symbols are within the limits
+abbrev pub IsHeld : ℕ → Option Decoder → Type 0
+IsHeld size None = ⊤
+IsHeld size (Some d) = (size ≤ d.matrix.k * d.len) × (d.len ≤ 65535)
+
+-- the outcomes that give an object
+abbrev pub IsWhole : BlockOutcome → Type 0
+IsWhole Absent = ⊤
+IsWhole Peeled = ⊤
+IsWhole Stuck = ⊥
+IsWhole Contradicted = ⊥

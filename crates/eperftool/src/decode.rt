@@ -1,12 +1,12 @@
 // The decode of a packet file.
-ghost use Rattle.std.specs.Prelude.{◌≡◌, ◌⊎◌, [], ℕ, List, IfOk, OnOk, OnErr};
+ghost use Rattle.std.specs.Prelude.{◌≡◌, ◌≢◌, ◌≤◌, ◌*◌, [], ℕ, List, IfOk, IfSome, OnOk, OnErr};
 ghost use Rattle.std.specs.Io.KnownBytes.{Appends, Keeps};
 ghost use Rattle.fec_base.specs.Bytes.{AppendsFront};
 ghost use Rattle.fec_base.specs.Causes.{HasCause, Rose};
-ghost use Rattle.eperftool.specs.Run.{IsTold, OutputFails, ReportFails, TakesSome};
+ghost use Rattle.eperftool.specs.Run.{IsCut, IsTold, Rebuilds, TakesSome};
+ghost use Rattle.eperftool.specs.Staged.{PassesOn};
 ghost use Rattle.eperftool.specs.Status.{fault_text, IsEarly};
-ghost use Rattle.eperftool.specs.Received.{IsNoPacketFile};
-ghost use Rattle.eperftool.specs.Decoded.{block_line, decode_report, ComesOut, Decodes, ReadsNoFile, object_kept};
+ghost use Rattle.eperftool.specs.Decoded.{block_line, decode_report, ComesOut, Decodes, HasAllSource, IsHeld, IsWhole, ReadsNoFile, kept_object, source_bytes};
 
 use crate::{Received, STAGING_LEN, Staging, Status, conclude, receive, tell};
 use fec_base::{NoMemory, Sink, Source, WriteFailed};
@@ -49,6 +49,18 @@ pub fn decode<S: Source, K: Sink, R: Sink>(
     output: &mut K,
     report: &mut R,
 ) -> Status
+    ensures done { result ≡ Status.Done → (object : List ℕ) × (text : List ℕ) × Rebuilds (S.left input.old) (S.left input.new) object text
+        × Appends (K.held output.old) (K.held output.new) object × Appends (R.held report.old) (R.held report.new) text }
+    ensures cut { result ≡ Status.WriteFault → (object : List ℕ) × (text : List ℕ) × Rebuilds (S.left input.old) (S.left input.new) object text
+        × IsCut object text (K.held output.old) (K.held output.new) (K.faults output.old) (K.faults output.new) (R.held report.old) (R.held report.new) (R.faults report.old) (R.faults report.new) }
+    ensures no_codeword { result ≡ Status.NoCodeword → (text : List ℕ) × Decodes (S.left input.old) (S.left input.new) BlockOutcome.Contradicted [] text
+        × Keeps (K.held output.old) (K.held output.new) × IsTold text (R.held report.old) (R.held report.new) (R.faults report.old) (R.faults report.new) }
+    ensures stuck { result ≡ Status.Stuck → (text : List ℕ) × Decodes (S.left input.old) (S.left input.new) BlockOutcome.Stuck [] text
+        × Keeps (K.held output.old) (K.held output.new) × IsTold text (R.held report.old) (R.held report.new) (R.faults report.old) (R.faults report.new) }
+    ensures read { result ≡ Status.ReadFault → Rose (S.faults input.old) (S.faults input.new) }
+    ensures unbuilt { result ≡ Status.Unbuilt → ReadsNoFile (S.left input.old) (S.left input.new) }
+    ensures early { IsEarly result → Keeps (K.held output.old) (K.held output.new) × IsTold (fault_text result) (R.held report.old) (R.held report.new) (R.faults report.old) (R.faults report.new) }
+    ensures taken { TakesSome (S.left input.old) (S.left input.new) }
 {
     match receive(alloc, input) {
         Ok(received) => finish(alloc, &received, output, report),
@@ -66,6 +78,19 @@ fn finish<K: Sink, R: Sink>(
     output: &mut K,
     report: &mut R,
 ) -> Status
+    requires { IsHeld received.now.header.transfer_length received.now.decoder }
+    ensures done { result ≡ Status.Done → (outcome : BlockOutcome) × IsWhole outcome × ComesOut received.now.decoder outcome
+        × Appends (K.held output.old) (K.held output.new) (kept_object received.now.decoder received.now.header.transfer_length)
+        × Appends (R.held report.old) (R.held report.new) (decode_report outcome received.now.packets) }
+    ensures cut { result ≡ Status.WriteFault → (outcome : BlockOutcome) × IsWhole outcome × ComesOut received.now.decoder outcome
+        × IsCut (kept_object received.now.decoder received.now.header.transfer_length) (decode_report outcome received.now.packets)
+        (K.held output.old) (K.held output.new) (K.faults output.old) (K.faults output.new) (R.held report.old) (R.held report.new) (R.faults report.old) (R.faults report.new) }
+    ensures no_codeword { result ≡ Status.NoCodeword → ComesOut received.now.decoder BlockOutcome.Contradicted × Keeps (K.held output.old) (K.held output.new)
+        × IsTold (decode_report BlockOutcome.Contradicted received.now.packets) (R.held report.old) (R.held report.new) (R.faults report.old) (R.faults report.new) }
+    ensures stuck { result ≡ Status.Stuck → ComesOut received.now.decoder BlockOutcome.Stuck × Keeps (K.held output.old) (K.held output.new)
+        × IsTold (decode_report BlockOutcome.Stuck received.now.packets) (R.held report.old) (R.held report.new) (R.faults report.old) (R.faults report.new) }
+    ensures early { IsEarly result → Keeps (K.held output.old) (K.held output.new) × IsTold (fault_text result) (R.held report.old) (R.held report.new) (R.faults report.old) (R.faults report.new) }
+    ensures ends { (result ≢ Status.ReadFault) × (result ≢ Status.Unbuilt) }
 {
     let outcome = block_outcome(&received.decoder);
     let Ok((text, mut staging)) = prepare(alloc, outcome, received.packets) else {
@@ -123,6 +148,13 @@ fn write_object<K: Sink>(
     sink: &mut K,
     received: &Received,
 ) -> Result<(), WriteFailed>
+    requires empty { staging.old.bytes ≡ [] }
+    requires room { staging.old.room ≡ 262144 }
+    requires held { IsHeld received.now.header.transfer_length received.now.decoder }
+    requires known { IfSome received.now.decoder HasAllSource }
+    ensures written { OnOk result (Appends (K.held sink.old) (K.held sink.new) (kept_object received.now.decoder received.now.header.transfer_length)) }
+    ensures cut { OnErr result (AppendsFront (K.held sink.old) (K.held sink.new) (kept_object received.now.decoder received.now.header.transfer_length)) }
+    ensures cause { HasCause (K.faults sink.old) (K.faults sink.new) result }
 {
     if let Some(core) = &received.decoder {
         put_object(staging, sink, core, received.header.transfer_length)?;
@@ -138,6 +170,15 @@ fn put_object<K: Sink>(
     core: &Core,
     transfer_length: u64,
 ) -> Result<(), WriteFailed>
+    requires empty { staging.old.bytes ≡ [] }
+    requires room { staging.old.room ≡ 262144 }
+    requires small { core.now.len ≤ 65535 }
+    requires known { HasAllSource core.now }
+    requires length { transfer_length ≤ core.now.matrix.k * core.now.len }
+    ensures passed { OnOk result (PassesOn (K.held sink.old) (K.held sink.new) [] staging.new.bytes (source_bytes core.now transfer_length)) }
+    ensures cut { OnErr result (AppendsFront (K.held sink.old) (K.held sink.new) (source_bytes core.now transfer_length)) }
+    ensures room { staging.new.room ≡ staging.old.room }
+    ensures cause { HasCause (K.faults sink.old) (K.faults sink.new) result }
 {
     let mut rest = transfer_length as usize;
     for position in 0..core.code().k() {

@@ -1,10 +1,13 @@
 // A packet file, received packet by packet.
-ghost use Rattle.std.specs.Prelude.{◌≡◌, ◌≢◌, ◌≤◌, ◌+◌, List, length, IfOk};
+ghost use Rattle.std.specs.Prelude.{◌≡◌, ◌≤◌, ◌+◌, true, false, List, [], ◌∷◌, length, IfOk, IfErr, OnErr};
+ghost use Rattle.std.specs.Io.KnownBytes.{Consumes, IsAtEnd};
 ghost use Rattle.fec_base.specs.Causes.{Rose};
 ghost use Rattle.sparse_rows.specs.Codeword.{Arrival};
 ghost use Rattle.eperftool.specs.Run.{TakesSome};
+ghost use Rattle.eperftool.specs.Status.{IsEarly};
+ghost use Rattle.eperftool.specs.File.{header};
 ghost use Rattle.eperftool.specs.Received.{IsFileHeader};
-ghost use Rattle.eperftool.specs.Decoded.{KeepsDecoder, IsReceived, ReadsNoFile, TakesNoPacket, TakesPackets, ReadsNoPackets, ReadsPackets};
+ghost use Rattle.eperftool.specs.Decoded.{IsFor, StandsForAll, IsReceived, ReadsNoFile, TakesNoPacket, TakesPackets, ReadsNoPackets, ReadsPackets};
 
 use crate::{EncodeOptions, FileHeader, HEADER_LEN, Status, parse_header};
 use byteorder::{BigEndian, ByteOrder};
@@ -75,7 +78,8 @@ fn read_header<S: Source>(alloc: Global, input: &mut S) -> Result<FileHeader, St
 // A decoder of the object's block, at which nothing has arrived. None where the object has no bytes.
 fn make_decoder(alloc: Global, header: &FileHeader) -> Result<Option<Core>, Status>
     requires { IsFileHeader header.now.options header.now.transfer_length }
-    ensures empty { IfOk result (KeepsDecoder header.now.options header.now.transfer_length []) }
+    ensures decoder { IfOk result (IsFor header.now.options header.now.transfer_length) }
+    ensures empty { IfOk result (StandsForAll []) }
     ensures memory { OnErr result (result ≡ Err Status.Memory) }
 {
     if header.transfer_length == 0 {
@@ -99,7 +103,9 @@ fn receive_packets<S: Source>(
     header: &FileHeader,
     decoder: &mut Option<Core>,
 ) -> Result<u32, Status>
-    requires { IsFileHeader header.now.options header.now.transfer_length }
+    requires header { IsFileHeader header.now.options header.now.transfer_length }
+    requires decoder { IsFor header.now.options header.now.transfer_length decoder.old }
+    ensures kept { IsFor header.now.options header.now.transfer_length decoder.new }
     ensures packets { IfOk result (λ count. (arrivals : List Arrival) × ReadsPackets (S.left input.old) (S.left input.new) header.now.options header.now.transfer_length decoder.old decoder.new count arrivals) }
     ensures early { IfErr result IsEarly }
     ensures read { result ≡ Err Status.ReadFault → Rose (S.faults input.old) (S.faults input.new) }
@@ -112,7 +118,7 @@ fn receive_packets<S: Source>(
         Err(_) => return Err(Status::Memory),
     };
     for packets in 0..=MOST_PACKETS {
-        match take_packet(input, &mut piece, decoder) {
+        match take_packet(input, header, &mut piece, decoder) {
             Ok(true) => {}
             Ok(false) => return Ok(packets),
             Err(status) => return Err(status),
@@ -124,9 +130,22 @@ fn receive_packets<S: Source>(
 // Takes in the next packet. Says whether there was one.
 fn take_packet<S: Source>(
     input: &mut S,
+    header: &FileHeader,
     piece: &mut [u8],
     decoder: &mut Option<Core>,
 ) -> Result<bool, Status>
+    requires header { IsFileHeader header.now.options header.now.transfer_length }
+    requires piece { length piece.old ≡ 4 + header.now.options.symbol }
+    requires decoder { IsFor header.now.options header.now.transfer_length decoder.old }
+    ensures packet { result ≡ Ok true → (arrival : Arrival) × TakesPackets (S.left input.old) (S.left input.new) header.now.options header.now.transfer_length decoder.old decoder.new (arrival ∷ []) }
+    ensures end { result ≡ Ok false → Consumes (S.left input.old) (S.left input.new) [] × IsAtEnd (S.left input.new) × (decoder.new ≡ decoder.old) }
+    ensures early { IfErr result IsEarly }
+    ensures read { result ≡ Err Status.ReadFault → Rose (S.faults input.old) (S.faults input.new) }
+    ensures unbuilt { result ≡ Err Status.Unbuilt → TakesNoPacket (S.left input.old) (S.left input.new) header.now.options header.now.transfer_length }
+    ensures taken { OnErr result (TakesSome (S.left input.old) (S.left input.new)) }
+    ensures kept { IsFor header.now.options header.now.transfer_length decoder.new }
+    ensures length { length piece.new ≡ length piece.old }
+    ensures later { S.faults input.old ≤ S.faults input.new }
 {
     match read_full(input, piece) {
         Ok(0) => return Ok(false),
