@@ -21,6 +21,7 @@ pub record Fit (o : EncodeOptions) (transfer_length : ℕ) : Type 0 where
   pub sizes_fit : sizes_of o < 256 ^ 5
   pub width_fits : o.width < 256 ^ 4
 
+-- the fields of a header fit
 pub fields_fit : (o : EncodeOptions) (transfer_length : ℕ) → IsFileHeader o transfer_length → Fit o transfer_length
 fields_fit o transfer_length is =
     let block : o.block ≤ 65536 = omega (arith, is.size) in
@@ -46,19 +47,16 @@ limits_allow o transfer_length limits fits = record {
   fits = fits;
 }
 
--- a header has 26 bytes, which stand in front of what follows
+-- a header has 26 bytes
 pub length_header : (o : EncodeOptions) (transfer_length : ℕ) → length (header o transfer_length) ≡ 26
 length_header o transfer_length = refl
 
+-- the header stands in front of what follows
 pub take_header : (o : EncodeOptions) (transfer_length : ℕ) (rest : List ℕ) → take 26 (header o transfer_length ++ rest) ≡ header o transfer_length
 take_header o transfer_length rest = refl
 
 pub drop_header : (o : EncodeOptions) (transfer_length : ℕ) (rest : List ℕ) → drop 26 (header o transfer_length ++ rest) ≡ rest
 drop_header o transfer_length rest = refl
-
--- options of a width, a block and a symbol length
-abbrev options : ℕ → ℕ → ℕ → EncodeOptions
-options w b e = record { width = w; block = b; symbol = e }
 
 -- the options at their places in the bytes
 abbrev pub options_at : List ℕ → EncodeOptions
@@ -82,10 +80,7 @@ options_back o transfer_length is =
     let sizes : big_number 5 (drop 17 bytes) ≡ sizes_of o = big_number-reads_back 5 (sizes_of o) (drop 22 bytes) fit.sizes_fit in
     let block : big_number 5 (drop 17 bytes) / 2 ^ 20 ≡ o.block = ap (λ (sizes : ℕ). sizes / 2 ^ 20) sizes ∙ div-mul-add o.block (2 ^ 20) (size_2d o.block o.width) (omega (arith, is.size)) in
     let symbol : big_number 2 (drop 14 bytes) ≡ o.symbol = big_number-reads_back 2 o.symbol (drop 16 bytes) fit.symbol_fits in
-    same_options width block symbol
-  where
-    same_options : {w w' b b' e e' : ℕ} → w ≡ w' → b ≡ b' → e ≡ e' → options w b e ≡ options w' b' e'
-    same_options f g h = cc
+    let same : options_at bytes ≡ record { width = o.width; block = o.block; symbol = o.symbol } = cc in same
 
 -- bytes are the header of one file at most
 pub header_one : (o p : EncodeOptions) (transfer_length other_length : ℕ) → IsFileHeader o transfer_length → IsFileHeader p other_length

@@ -4,14 +4,12 @@ ghost use Rattle.byteorder.specs.Endian.{big_bytes};
 ghost use Rattle.eperftool.specs.File.{header};
 ghost use Rattle.eperftool.specs.Received.{IsFileHeader};
 
-use crate::EncodeOptions;
+use crate::{EncodeOptions, HEADER_LEN};
 use byteorder::{BigEndian, ByteOrder};
 use fec_base::NoMemory;
 use itoa::Buffer;
 use parity_2d::size_2d;
 use std::alloc::Global;
-
-use crate::HEADER_LEN;
 
 const MAGIC: &[u8; 4] = b"OFPK";
 
@@ -26,6 +24,7 @@ const ONE_GROUP: u8 = 1;
 const UPPER_BITS: u64 = 1 << 20;
 
 /// The 26 bytes of the header of a packet file, by the options and the number of the object's bytes.
+/// `NoMemory` where the allocator has no room for them.
 pub fn make_header(
     alloc: Global,
     options: &EncodeOptions,
