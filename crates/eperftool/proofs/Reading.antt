@@ -133,6 +133,13 @@ no_file_more o len arrivals q header_is packets full some rest p other others fi
     let none : front.further ≡ [] = nil_from_length front.further (omega (arith, file.most, full, ap length front.others_are, length-append arrivals front.further)) in
     omega (arith, some, length-append q rest, ap length (front.rest_is ∙ ap spelled none))
 
+-- bytes that begin with more packets than a file has are no packet file
+pub no_file_over : (o : EncodeOptions) (len : ℕ) (arrivals : List Arrival) → IsFileHeader o len → All (IsPacketOf o len) arrivals → 16777216 < length arrivals
+    → (rest : List ℕ) → IsNoPacketFile ((header o len ++ spelled arrivals) ++ rest)
+no_file_over o len arrivals header_is packets over rest p other others file =
+    let front = (file_front o p len other arrivals others rest ((header o len ++ spelled arrivals) ++ rest) header_is packets refl file).2 in
+    omega (arith, file.most, over, ap length front.others_are, length-append arrivals front.further)
+
 -- a piece of bytes is the packet with the number in its first four bytes, and the symbol behind them
 pub piece_is : (q : List ℕ) (e : ℕ) → 4 ≤ length q → ((i : ℕ) → get_or q i 0 < 256) → e ≡ big_number 4 q → q ≡ packet 0 e (drop 4 q)
 piece_is [] e long bytes number = absurd (omega arith)

@@ -117,7 +117,7 @@ fn receive_packets<S: Source>(
         Ok(piece) => piece,
         Err(_) => return Err(Status::Memory),
     };
-    for packets in 0..=MOST_PACKETS {
+    for packets in 0..MOST_PACKETS + 1 {
         match take_packet(input, header, &mut piece, decoder) {
             Ok(true) => {}
             Ok(false) => return Ok(packets),
@@ -153,12 +153,11 @@ fn take_packet<S: Source>(
         Ok(_) => {}
         Err(ReadFailed) => return Err(Status::ReadFault),
     }
-    let (identifier, symbol) = piece.split_at(IDENTIFIER_LEN);
     // The first source block has the number 0, so an identifier of its packets is the ESI.
-    let esi = BigEndian::read_u32(identifier);
+    let esi = BigEndian::read_u32(piece);
     match decoder {
         Some(core) if esi < core.code().n() => {
-            core.arrive(esi, symbol, &mut Steps::<Tally>::start());
+            core.arrive(esi, &piece[IDENTIFIER_LEN..], &mut Steps::<Tally>::start());
             Ok(true)
         }
         _ => Err(Status::Unbuilt),
