@@ -38,8 +38,8 @@ word_is m shape len t x symbols rows holds = record {
   count = length-map-range_with_len x 0 m.n;
   symbols = All-map (IsSymbol len) x (range_with_len 0 m.n) (λ i d lt. symbols _);
   rows = All-from_get_or (SumsToZero len (symbol_at len (word_of m.n x))) m.rows [] (λ i lt.
-    sums_agree len (symbol_at len (word_of m.n x)) x (get_or m.rows i []) (λ j d h. word_at len m.n x _ (row_below m shape i lt j d h))
-    ∙ rows i [] lt (λ j d h. holds _ (row_below m shape i lt j d h)));
+      sums_agree len (symbol_at len (word_of m.n x)) x (get_or m.rows i []) (λ j d h. word_at len m.n x _ (row_below m shape i lt j d h))
+      ∙ rows i [] lt (λ j d h. holds _ (row_below m shape i lt j d h)));
 }
 
 -- the first k of the symbols lie one after the other
