@@ -7,3 +7,4 @@ pub mod Ends
 pub mod Unique
 pub mod Reading
 pub mod Receiving
+pub mod Determined

@@ -7,8 +7,10 @@ use Rattle.std.proofs.lemmas.Fmt.{parse-decimal, decimal_injective}
 use Rattle.std.proofs.lemmas.Slice.Eq.{bytes_eq-Decides}
 use Rattle.std.specs.Str.{bytes_eq}
 use Rattle.std.proofs.lemmas.List.{append_cancel_left}
-use Rattle.eperftool.specs.Command.{Asks, IsInLimits, encode_words}
+use Rattle.eperftool.specs.Command.{Asks, IsInLimits, Means, decode_words, encode_words}
 use Rattle.eperftool.specs.declared.command.EncodeOptions.{EncodeOptions}
+use Rattle.eperftool.specs.declared.command.Command.{Command}
+use Rattle.eperftool.specs.declared.command.Command.TheVariants.{Encode, Decode}
 
 -- where nothing is parsed, the text is no number in decimal
 pub not_decimal : {E : Type 0} (text : List ℕ) (r : Result ℕ E) → ParsesUnsigned 32 10 text r → result_ok r ≡ None → (n : ℕ) → n < 2 ^ 32 → text ≢ decimal n
@@ -73,3 +75,22 @@ spelled_one words o p spelled fit asks =
 -- words that ask for something, and spell these options, ask for them
 pub spelled_asks : (words : List (List ℕ)) (o p : EncodeOptions) → words ≡ encode_words o → (o.width < 2 ^ 32) × (o.block < 2 ^ 32) × (o.symbol < 2 ^ 32) → Asks words p → IsInLimits o
 spelled_asks words o p spelled fit asks = subst IsInLimits (sym (spelled_one words o p spelled fit asks)) asks.in_limits
+
+-- an `encode` has more words than a `decode`
+pub other_words : (words : List (List ℕ)) (o : EncodeOptions) → Asks words o → words ≡ decode_words → ⊥
+other_words words o asks is = omega (arith, ap length asks.spelled, ap length is)
+
+-- words ask for one command at most
+pub one_meaning : (words : List (List ℕ)) (command other : Command) → Means words command → Means words other → command ≡ other
+one_meaning words (Encode o) (Encode p) asks others =
+    let limits : IsInLimits o = asks.in_limits in
+    ap Encode (spelled_one words o p asks.spelled (omega (arith, limits.width_most), omega (arith, limits.block_most), omega (arith, limits.symbol_most)) others)
+one_meaning words (Encode o) Decode asks is = absurd (other_words words o asks is)
+one_meaning words Decode (Encode p) is asks = absurd (other_words words p asks is)
+one_meaning words Decode Decode is others = refl
+
+-- one word alone
+pub one_word : (words : List (List ℕ)) → length words ≡ 1 → words ≡ get_or words 0 [] ∷ []
+one_word [] e = absurd (omega arith)
+one_word (a ∷ []) e = refl
+one_word (a ∷ b ∷ words) e = absurd (omega arith)

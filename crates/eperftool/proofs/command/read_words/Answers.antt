@@ -1,10 +1,9 @@
-use Rattle.std.proofs.Common.{◌<◌, ◌^◌, arith, true≢false, sym, ◌∙◌}
-use Rattle.eperftool.proofs.Words.{spelled_asks}
+use Rattle.std.proofs.Common.{List, [], ◌∷◌, ℕ, codes, sym, ap, ◌∙◌}
+use Rattle.std.proofs.lemmas.Slice.Eq.{bytes_eq-Decides}
+use Rattle.eperftool.proofs.Words.{one_word}
 use Rattle.eperftool.proofs.command.read_words.Goals as goal
 
-pub returns-else-is_in_limits : goal.returns-else-is_in_limits
-returns-else-is_in_limits c asked asks =
-    let o = c.in_ok-options.options in
-    let fit : (o.width < 2 ^ 32) × (o.block < 2 ^ 32) × (o.symbol < 2 ^ 32) = (omega arith, omega arith, omega arith) in
-    let limits = spelled_asks c.args.words.now o asked c.in_ok-options.ensures fit asks in
-    absurd (true≢false (sym (c.is_in_limits.ensures.1 limits) ∙ c.if-is_in_limits.false))
+pub returns-then-eq : goal.returns-then-eq
+returns-then-eq c =
+    one_word c.args.words.now (sym c.count.ensures ∙ c.if-count-eq1.true)
+    ∙ ap (λ (word : List ℕ). word ∷ []) (sym c.word.ensures ∙ (bytes_eq-Decides c.word.result.now (codes "decode")).0 (sym c.eq.ensures ∙ c.if-eq.true))
