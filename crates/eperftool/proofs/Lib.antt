@@ -6,3 +6,4 @@ pub mod Headers
 pub mod Ends
 pub mod Unique
 pub mod Reading
+pub mod Objects
