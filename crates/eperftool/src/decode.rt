@@ -6,7 +6,7 @@ ghost use Rattle.fec_base.specs.Causes.{HasCause, Rose};
 ghost use Rattle.eperftool.specs.Run.{IsCut, IsTold, Rebuilds, TakesSome};
 ghost use Rattle.eperftool.specs.Staged.{PassesOn};
 ghost use Rattle.eperftool.specs.Status.{fault_text, IsEarly};
-ghost use Rattle.eperftool.specs.Decoded.{block_line, decode_report, ComesOut, Decodes, HasAllSource, IsHeld, IsWhole, ReadsNoFile, kept_object, source_bytes};
+ghost use Rattle.eperftool.specs.Decoded.{block_line, decode_report, ComesOut, Decodes, HasAllSource, IsWhole, ReadsNoFile, kept_object, source_bytes};
 
 use crate::{Received, STAGING_LEN, Staging, Status, conclude, receive, tell};
 use fec_base::{NoMemory, Sink, Source, WriteFailed};
@@ -78,7 +78,6 @@ fn finish<K: Sink, R: Sink>(
     output: &mut K,
     report: &mut R,
 ) -> Status
-    requires { IsHeld received.now.header.transfer_length received.now.decoder }
     ensures done { result ≡ Status.Done → (outcome : BlockOutcome) × IsWhole outcome × ComesOut received.now.decoder outcome
         × Appends (K.held output.old) (K.held output.new) (kept_object received.now.decoder received.now.header.transfer_length)
         × Appends (R.held report.old) (R.held report.new) (decode_report outcome received.now.packets) }
