@@ -15,7 +15,7 @@ use Rattle.peeling.specs.Stands.{IsConsistent, StandsFor}
 use Rattle.peeling.proofs.Arrivals.{sums_agree}
 use Rattle.peeling.proofs.Closure.{closure_full, row_below}
 use Rattle.eperftool.specs.Received.{IsFileHeader, IsPacketOf, IsPeeled, IsStuck, IsContradicted, file_matrix, source_count, symbol_count}
-use Rattle.eperftool.specs.Decoded.{ComesOut, Decodes, Determines, HasAllSource, IsDecoderFor, IsFor, IsHeld, IsReceived, IsWhole, StandsForAll, decode_report, kept_object, source_bytes}
+use Rattle.eperftool.specs.Decoded.{ComesOut, Decodes, Determines, HasAllSource, IsDecoderFor, IsFor, IsReceived, IsWhole, StandsForAll, decode_report, kept_object, source_bytes}
 use Rattle.eperftool.specs.Run.{Rebuilds}
 use Rattle.eperftool.specs.declared.command.EncodeOptions.{EncodeOptions}
 use Rattle.eperftool.specs.declared.receive.Received.{Received}
@@ -134,19 +134,7 @@ pub contradicted : (o : EncodeOptions) (len : ℕ) (arrivals : List Arrival) (de
 contradicted o len arrivals None f stands comes = absurd comes
 contradicted o len arrivals (Some d) f stands comes = (f.some, contradicted_by o len arrivals d f stands comes, refl)
 
--- the decoder of a file has the room of its object
-pub held : (o : EncodeOptions) (len : ℕ) (decoder : Option Decoder) → IsFileHeader o len → IsFor o len decoder → IsHeld len decoder
-held o len None header_is f = tt
-held o len (Some d) header_is f =
-    let room : len ≤ source_count o len * o.symbol = ceil_room len o.symbol header_is.symbol in
-    let same : d.matrix.k * d.len ≡ source_count o len * o.symbol = ap₂ ◌*◌ (source_is o len [] d f) f.len in
-    (omega (arith, room, same), omega (arith, f.len, header_is.symbol_bits))
-
 -- ---- a file that was received
-
--- the decoder of a file that was received has the room of its object
-pub held_of : (left left_now : Option (List ℕ)) (r : Received) (arrivals : List Arrival) → IsReceived left left_now r arrivals → IsHeld r.header.transfer_length r.decoder
-held_of left left_now r arrivals is = held r.header.options r.header.transfer_length r.decoder is.file.file.header_is is.decoder
 
 -- what its decoder determines is what the input decodes to
 pub decodes : (left left_now : Option (List ℕ)) (r : Received) (arrivals : List Arrival) (outcome : BlockOutcome) (object : List ℕ) → IsReceived left left_now r arrivals

@@ -8,3 +8,4 @@ pub mod Unique
 pub mod Reading
 pub mod Receiving
 pub mod Determined
+pub mod Objects

@@ -123,11 +123,6 @@ abbrev pub kept_object : Option Decoder → ℕ → List ℕ
 kept_object None size = []
 kept_object (Some d) size = source_bytes d size
 
--- a decoder has the room of the object, and its symbols are within the limits
-abbrev pub IsHeld : ℕ → Option Decoder → Type 0
-IsHeld size None = ⊤
-IsHeld size (Some d) = (size ≤ d.matrix.k * d.len) × (d.len ≤ 65535)
-
 -- the outcomes that give an object
 abbrev pub IsWhole : BlockOutcome → Type 0
 IsWhole Absent = ⊤

@@ -1,12 +1,12 @@
 // The decode of a packet file.
-ghost use Rattle.std.specs.Prelude.{◌≡◌, ◌≢◌, ◌≤◌, ◌*◌, [], ℕ, List, IfOk, IfSome, OnOk, OnErr};
+ghost use Rattle.std.specs.Prelude.{◌≡◌, ◌≢◌, ◌≤◌, ◌++◌, [], ℕ, List, IfOk, IfSome, OnOk, OnErr};
 ghost use Rattle.std.specs.Io.KnownBytes.{Appends, Keeps};
 ghost use Rattle.fec_base.specs.Bytes.{AppendsFront};
 ghost use Rattle.fec_base.specs.Causes.{HasCause, Rose};
 ghost use Rattle.eperftool.specs.Run.{IsCut, IsTold, Rebuilds, TakesSome};
 ghost use Rattle.eperftool.specs.Staged.{PassesOn};
 ghost use Rattle.eperftool.specs.Status.{fault_text, IsEarly};
-ghost use Rattle.eperftool.specs.Decoded.{block_line, decode_report, ComesOut, Decodes, HasAllSource, IsHeld, IsWhole, ReadsNoFile, kept_object, source_bytes};
+ghost use Rattle.eperftool.specs.Decoded.{block_line, decode_report, ComesOut, Decodes, HasAllSource, IsWhole, ReadsNoFile, kept_object, source_bytes};
 
 use crate::{Received, STAGING_LEN, Staging, Status, conclude, receive, tell};
 use fec_base::{NoMemory, Sink, Source, WriteFailed};
@@ -78,7 +78,6 @@ fn finish<K: Sink, R: Sink>(
     output: &mut K,
     report: &mut R,
 ) -> Status
-    requires { IsHeld received.now.header.transfer_length received.now.decoder }
     ensures done { result ≡ Status.Done → (outcome : BlockOutcome) × IsWhole outcome × ComesOut received.now.decoder outcome
         × Appends (K.held output.old) (K.held output.new) (kept_object received.now.decoder received.now.header.transfer_length)
         × Appends (R.held report.old) (R.held report.new) (decode_report outcome received.now.packets) }
@@ -142,23 +141,24 @@ fn prepare(
     Ok((text, staging))
 }
 
-// Writes the object that a decoder with all source symbols keeps.
+// Writes the object that a decoder with all source symbols keeps, by a staging buffer in which
+// nothing waits.
 fn write_object<K: Sink>(
     staging: &mut Staging,
     sink: &mut K,
     received: &Received,
 ) -> Result<(), WriteFailed>
     requires empty { staging.old.bytes ≡ [] }
-    requires room { staging.old.room ≡ 262144 }
-    requires held { IsHeld received.now.header.transfer_length received.now.decoder }
+    requires room { 65535 ≤ staging.old.room }
     requires known { IfSome received.now.decoder HasAllSource }
     ensures written { OnOk result (Appends (K.held sink.old) (K.held sink.new) (kept_object received.now.decoder received.now.header.transfer_length)) }
     ensures cut { OnErr result (AppendsFront (K.held sink.old) (K.held sink.new) (kept_object received.now.decoder received.now.header.transfer_length)) }
     ensures cause { HasCause (K.faults sink.old) (K.faults sink.new) result }
 {
-    if let Some(core) = &received.decoder {
-        put_object(staging, sink, core, received.header.transfer_length)?;
-    }
+    let Some(core) = &received.decoder else {
+        return Ok(());
+    };
+    put_object(staging, sink, core, received.header.transfer_length)?;
     staging.flush(sink)?;
     Ok(())
 }
@@ -170,13 +170,10 @@ fn put_object<K: Sink>(
     core: &Core,
     transfer_length: u64,
 ) -> Result<(), WriteFailed>
-    requires empty { staging.old.bytes ≡ [] }
-    requires room { staging.old.room ≡ 262144 }
-    requires small { core.now.len ≤ 65535 }
+    requires room { 65535 ≤ staging.old.room }
     requires known { HasAllSource core.now }
-    requires length { transfer_length ≤ core.now.matrix.k * core.now.len }
-    ensures passed { OnOk result (PassesOn (K.held sink.old) (K.held sink.new) [] staging.new.bytes (source_bytes core.now transfer_length)) }
-    ensures cut { OnErr result (AppendsFront (K.held sink.old) (K.held sink.new) (source_bytes core.now transfer_length)) }
+    ensures passed { OnOk result (PassesOn (K.held sink.old) (K.held sink.new) staging.old.bytes staging.new.bytes (source_bytes core.now transfer_length)) }
+    ensures cut { OnErr result (AppendsFront (K.held sink.old) (K.held sink.new) (staging.old.bytes ++ source_bytes core.now transfer_length)) }
     ensures room { staging.new.room ≡ staging.old.room }
     ensures cause { HasCause (K.faults sink.old) (K.faults sink.new) result }
 {

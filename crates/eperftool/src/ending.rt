@@ -10,11 +10,7 @@ use fec_base::{Sink, WriteFailed, write_all};
 
 /// Ends a run whose output was written, or failed: the report is the text, or says that the output
 /// failed.
-pub fn conclude<R: Sink>(
-    written: Result<(), WriteFailed>,
-    report: &mut R,
-    text: &[u8],
-) -> Status
+pub fn conclude<R: Sink>(written: Result<(), WriteFailed>, report: &mut R, text: &[u8]) -> Status
     ensures done { result ≡ Status.Done → OnErr written ⊥ × Appends (R.held report.old) (R.held report.new) text.now }
     ensures cut { result ≡ Status.WriteFault → (OnOk written ⊥ × IsTold (codes "fault: write\n") (R.held report.old) (R.held report.new) (R.faults report.old) (R.faults report.new))
         ⊎ (OnErr written ⊥ × Rose (R.faults report.old) (R.faults report.new) × AppendsFront (R.held report.old) (R.held report.new) text.now) }

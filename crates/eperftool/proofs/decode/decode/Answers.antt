@@ -1,12 +1,7 @@
 use Rattle.eperftool.specs.Decoded.{decode_report, kept_object}
 use Rattle.eperftool.specs.declared.decode.BlockOutcome.TheVariants.{Stuck, Contradicted}
-use Rattle.eperftool.proofs.Determined.{decodes_contradicted, decodes_stuck, held_of, rebuilds}
+use Rattle.eperftool.proofs.Determined.{decodes_contradicted, decodes_stuck, rebuilds}
 use Rattle.eperftool.proofs.decode.decode.Goals as goal
-
-pub finish-requires : goal.finish-requires
-finish-requires g c =
-    let left = g.S.Source.left in
-    let received = c.in-Ok.ensures.received in held_of (left c.args.input.now) (left c.receive.new.input) c.in-Ok.received received.0 received.1
 
 pub returns-in-Ok-clause-done : goal.returns-in-Ok-clause-done
 returns-in-Ok-clause-done g c is =
