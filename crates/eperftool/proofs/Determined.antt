@@ -50,7 +50,7 @@ front_bytes k n x le =
 -- ---- the packets of a file
 
 -- an object with bytes has the encoding symbols of one block
-symbol_some : (o : EncodeOptions) (len : ℕ) → 1 ≤ len → symbol_count o len ≡ size_2d (source_count o len) o.width
+pub symbol_some : (o : EncodeOptions) (len : ℕ) → 1 ≤ len → symbol_count o len ≡ size_2d (source_count o len) o.width
 symbol_some o len some = by_case (len == 0) refl
   where
     by_case : (none : Bool) → (len == 0) ≡ none → (if none then 0 else size_2d (source_count o len) o.width) ≡ size_2d (source_count o len) o.width

@@ -1,21 +1,30 @@
 -- Packets that are taken one after the other.
-use Rattle.std.proofs.Common.{◌≡◌, ◌⊎◌, ℕ, ◌+◌, ◌<◌, List, [], ◌∷◌, ◌++◌, length, All, refl, sym, ap, ◌∙◌, subst, inl, inr, ◌≤◌, append_assoc, append-nil, Option}
+use Rattle.std.proofs.Common.{◌≡◌, ◌⊎◌, ℕ, zero, suc, ◌+◌, ◌<◌, List, [], ◌∷◌, ◌++◌, length, get_or, take, drop, All, ◌-◌, ◌≢◌, Fits, w8, rules, length-drop, arith, Some, refl, sym, ap, ◌∙◌, subst, inl, inr, ◌≤◌, append_assoc, append-nil, Option}
 use Rattle.std.specs.Io.KnownBytes.{Consumes, IsAtEnd}
 use Rattle.std.proofs.KnownBytes.{Consumes-trans}
+use Rattle.std.proofs.lemmas.List.{take_all}
 use Rattle.std.proofs.lemmas.List.Elements.{All-append}
 use Rattle.std.proofs.lemmas.List.Concat.{flat_map-append}
 use Rattle.sparse_rows.specs.Codeword.{Arrival}
+use Rattle.byteorder.specs.Endian.{big_number}
+use Rattle.sparse_rows.specs.Matrix.{Matrix}
 use Rattle.peeling.specs.Decoder.{Decoder}
+use Rattle.peeling.specs.Stands.{Receives}
 use Rattle.eperftool.specs.File.{header, packet}
-use Rattle.eperftool.specs.Received.{IsFileHeader, IsPacketOf, IsNoPacketFile, spelled}
-use Rattle.eperftool.specs.Decoded.{ReadsFile, ReadsNoFile, ReadsPackets, ReadsNoPackets, TakesPackets, TakesNoPacket, StandsForAll}
+use Rattle.eperftool.specs.Received.{IsFileHeader, IsPacketOf, IsNoPacketFile, spelled, symbol_count}
+use Rattle.eperftool.specs.Decoded.{ReadsFile, ReadsNoFile, ReadsPackets, ReadsNoPackets, TakesPackets, TakesNoPacket, TakesPiece, IsDecoderFor, StandsForAll}
 use Rattle.eperftool.specs.declared.command.EncodeOptions.{EncodeOptions}
-use Rattle.eperftool.proofs.Reading.{no_file_short, no_file_piece, no_file_over}
+use Rattle.eperftool.proofs.Reading.{no_file_short, no_file_piece, no_file_over, no_packet, piece_is}
+use Rattle.eperftool.proofs.Determined.{symbol_some}
+
+all_one : {A : Type 0} (P : A → Type 0) (a : A) → P a → All P (a ∷ [])
+all_one P a p zero d lt = p
+all_one P a p (suc k) d lt = absurd (omega arith)
 
 -- no packet was taken yet
 pub took_none : (left : Option (List ℕ)) (o : EncodeOptions) (size : ℕ) (decoder : Option Decoder) → Consumes left left [] → TakesPackets left left o size decoder decoder []
 took_none left o size decoder none = record {
-  packets = tt;
+  packets = λ k d lt. absurd (omega arith);
   taken = none;
   stands = λ before stands. subst (λ (l : List Arrival). StandsForAll l decoder) (sym (append-nil before)) stands;
 }
@@ -27,6 +36,54 @@ took_more left mid now o size first second third arrivals more p q = record {
   packets = All-append (IsPacketOf o size) arrivals more p.packets q.packets;
   taken = subst (Consumes left now) (sym (flat_map-append (λ (a : Arrival). packet 0 a.0 a.1) arrivals more)) (Consumes-trans left mid now (spelled arrivals) (spelled more) p.taken q.taken);
   stands = λ before stands. subst (λ (l : List Arrival). StandsForAll l third) (append_assoc before arrivals more) (q.stands (before ++ arrivals) (p.stands before stands));
+}
+
+-- packets, and then the input's end
+pub took_end : (left mid now : Option (List ℕ)) (o : EncodeOptions) (size : ℕ) (first second third : Option Decoder) (count : ℕ) (arrivals : List Arrival) → TakesPackets left mid o size first second arrivals
+    → Consumes mid now [] → IsAtEnd now → third ≡ second → length arrivals ≡ count → count ≤ 16777216 → ReadsPackets left now o size first third count arrivals
+took_end left mid now o size first second third count arrivals p nothing ended same counted most = record {
+  took = record {
+    packets = p.packets;
+    taken = subst (Consumes left now) (append-nil (spelled arrivals)) (Consumes-trans left mid now (spelled arrivals) [] p.taken nothing);
+    stands = λ before stands. subst (StandsForAll (before ++ arrivals)) (sym same) (p.stands before stands);
+  };
+  ended = ended;
+  counted = sym counted;
+  most = most;
+}
+
+-- the places of a decoder are the ESIs of its file
+pub places_of : (o : EncodeOptions) (size : ℕ) (d : Decoder) → IsDecoderFor o size d → d.matrix.n ≡ symbol_count o size
+places_of o size d for = ap (λ (m : Matrix). m.n) for.matrix ∙ sym (symbol_some o size for.some)
+
+-- a piece that the decoder took in as a packet
+pub piece_in : (o : EncodeOptions) (size : ℕ) (d received : Decoder) (q : List ℕ) (e : ℕ) → IsDecoderFor o size d → e < d.matrix.n → length q ≡ 4 + o.symbol → ((i : ℕ) → Fits w8 (get_or q i 0))
+    → e ≡ big_number 4 q → Receives d received e (take (length q - 4) (drop 4 q)) → TakesPiece o size (Some d) (Some received) q (e, drop 4 q)
+piece_in o size d received q e for below long fits number receives =
+    let places : d.matrix.n ≡ symbol_count o size = places_of o size d for in
+    let behind : length (drop 4 q) ≡ length q - 4 = length-drop 4 q in
+    let took = subst (Receives d received e) (take_all (length q - 4) (drop 4 q) (omega (arith, behind))) receives in
+    record {
+      packet_of = record { position = omega (arith, below, places); long = omega (arith, behind, long) };
+      piece_is = piece_is q e (omega (arith, long)) (λ i. let h : Fits w8 (get_or q i 0) = fits i in search (rules, h)) number;
+      stands = λ before stands. took.stands before stands;
+    }
+
+-- a piece whose number is no ESI of the file
+pub piece_out : (o : EncodeOptions) (size : ℕ) (q : List ℕ) (e : ℕ) → IsFileHeader o size → symbol_count o size ≤ e → e ≡ big_number 4 q → (a : Arrival) → IsPacketOf o size a → q ≢ packet 0 a.0 a.1
+piece_out o size q e header_is past number a one is = no_packet o size q header_is (omega (arith, past, number)) a.0 a.1 is one
+
+-- an object without bytes has no packets
+pub symbol_none : (o : EncodeOptions) (size : ℕ) → size ≡ 0 → symbol_count o size ≡ 0
+symbol_none o size none = ap (symbol_count o) none
+
+-- one packet, which the decoder took in
+pub took_one : (left now : Option (List ℕ)) (o : EncodeOptions) (size : ℕ) (first second : Option Decoder) (q : List ℕ) (a : Arrival) → TakesPiece o size first second q a → Consumes left now q
+    → TakesPackets left now o size first second (a ∷ [])
+took_one left now o size first second q a p taken = record {
+  packets = all_one (IsPacketOf o size) a p.packet_of;
+  taken = subst (Consumes left now) (p.piece_is ∙ sym (append-nil (packet 0 a.0 a.1))) taken;
+  stands = p.stands;
 }
 
 -- packets, and then what is none

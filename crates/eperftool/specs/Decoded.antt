@@ -97,6 +97,12 @@ pub record IsReceived (left left_now : Option (List ℕ)) (r : Received) (arriva
   pub decoder : IsFor r.header.options r.header.transfer_length r.decoder
   pub stands : StandsForAll arrivals r.decoder
 
+-- a piece of bytes is a packet of the file, and a decoder of those before it is now one of those before and of this one
+pub record TakesPiece (o : EncodeOptions) (transfer_length : ℕ) (decoder decoder_now : Option Decoder) (piece : List ℕ) (arrival : Arrival) : Type 0 where
+  pub packet_of : IsPacketOf o transfer_length arrival
+  pub piece_is : piece ≡ packet 0 arrival.0 arrival.1
+  pub stands : (before : List Arrival) → StandsForAll before decoder → StandsForAll (before ++ arrival ∷ []) decoder_now
+
 -- what was taken from the input is no packet of the file: it is cut short by the input's end, or as long as a packet and no packet of the file
 abbrev pub TakesNoPacket : Option (List ℕ) → Option (List ℕ) → EncodeOptions → ℕ → Type 0
 TakesNoPacket left left_now o transfer_length = (bytes : List ℕ) × Consumes left left_now bytes

@@ -1,13 +1,13 @@
 // A packet file, received packet by packet.
-ghost use Rattle.std.specs.Prelude.{◌≡◌, ◌≤◌, ◌+◌, true, false, List, [], ◌∷◌, length, IfOk, IfErr, OnErr};
+ghost use Rattle.std.specs.Prelude.{◌≡◌, ◌≤◌, ◌+◌, true, false, List, [], ◌∷◌, length, IfOk, IfErr, OnOk, OnErr, ◌≢◌};
 ghost use Rattle.std.specs.Io.KnownBytes.{Consumes, IsAtEnd};
 ghost use Rattle.fec_base.specs.Causes.{Rose};
 ghost use Rattle.sparse_rows.specs.Codeword.{Arrival};
 ghost use Rattle.eperftool.specs.Run.{TakesSome};
 ghost use Rattle.eperftool.specs.Status.{IsEarly};
-ghost use Rattle.eperftool.specs.File.{header};
-ghost use Rattle.eperftool.specs.Received.{IsFileHeader};
-ghost use Rattle.eperftool.specs.Decoded.{IsFor, StandsForAll, IsReceived, ReadsNoFile, TakesNoPacket, TakesPackets, ReadsNoPackets, ReadsPackets};
+ghost use Rattle.eperftool.specs.File.{header, packet};
+ghost use Rattle.eperftool.specs.Received.{IsFileHeader, IsPacketOf};
+ghost use Rattle.eperftool.specs.Decoded.{IsFor, StandsForAll, IsReceived, ReadsNoFile, TakesNoPacket, TakesPackets, TakesPiece, ReadsNoPackets, ReadsPackets};
 
 use crate::{EncodeOptions, FileHeader, HEADER_LEN, Status, parse_header};
 use byteorder::{BigEndian, ByteOrder};
@@ -153,12 +153,34 @@ fn take_packet<S: Source>(
         Ok(_) => {}
         Err(ReadFailed) => return Err(Status::ReadFault),
     }
+    take_piece(header, piece, decoder)?;
+    Ok(true)
+}
+
+// Takes in a piece that is as long as a packet. `Unbuilt` where it is no packet of the file.
+fn take_piece(
+    header: &FileHeader,
+    piece: &[u8],
+    decoder: &mut Option<Core>,
+) -> Result<(), Status>
+    requires header { IsFileHeader header.now.options header.now.transfer_length }
+    requires piece { length piece.now ≡ 4 + header.now.options.symbol }
+    requires decoder { IsFor header.now.options header.now.transfer_length decoder.old }
+    ensures packet { OnOk result ((arrival : Arrival) × TakesPiece header.now.options header.now.transfer_length decoder.old decoder.new piece.now arrival) }
+    ensures none { OnErr result ((a : Arrival) → IsPacketOf header.now.options header.now.transfer_length a → piece.now ≢ packet 0 a.0 a.1) }
+    ensures unbuilt { OnErr result (result ≡ Err Status.Unbuilt) }
+    ensures kept { IsFor header.now.options header.now.transfer_length decoder.new }
+{
     // The first source block has the number 0, so an identifier of its packets is the ESI.
     let esi = BigEndian::read_u32(piece);
     match decoder {
         Some(core) if esi < core.code().n() => {
-            core.arrive(esi, &piece[IDENTIFIER_LEN..], &mut Steps::<Tally>::start());
-            Ok(true)
+            core.arrive(
+                esi,
+                &piece[IDENTIFIER_LEN..],
+                &mut Steps::<Tally>::start(),
+            );
+            Ok(())
         }
         _ => Err(Status::Unbuilt),
     }
