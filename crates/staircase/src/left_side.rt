@@ -2,8 +2,8 @@
 ghost use Rattle.std.specs.Prelude.{◌≡◌, ◌<◌, ◌≤◌, ◌+◌, ◌-◌, ◌*◌, min, false, ℕ, length, Some, None, Err, IfOk, OnOk, OnErr};
 ghost use Rattle.sparse_rows.specs.Matrix.{row_of, has_entry, with_entry};
 ghost use Rattle.staircase.specs.Pick.{HasDrawn};
-ghost use Rattle.staircase.specs.LeftSide.{IsFilled, IsLeftSide, turn, column, left_side, in_order};
-ghost use Rattle.staircase.specs.Choices.{filling, drawn_matrix, blocked_count};
+ghost use Rattle.staircase.specs.LeftSide.{IsFilled, IsLeftSide, turn, column, left_side, in_order, drawn_matrix};
+ghost use Rattle.staircase.specs.Choices.{filling, blocked_count};
 
 use crate::choices::Choices;
 use crate::extras::add_extras;
