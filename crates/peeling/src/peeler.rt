@@ -92,7 +92,7 @@ impl Peeler {
 
     /// Takes in an encoding symbol, its position and its `len` bytes, and rebuilds what follows. A
     /// repeat with other bytes leaves those that are kept, and the arrivals then contradict one
-    /// another. It takes no memory. `steps` counts the entries of the matrix that were read.
+    /// another. It takes no memory.
     pub fn arrive<L: Ledger>(&mut self, e: u32, bytes: &[u8], steps: &mut Steps<L>) -> Arrival
         requires position { e < self.old.matrix.n }
         requires length { length bytes.now ≡ self.old.len }
