@@ -6,3 +6,6 @@
 mod encode;
 
 pub use encode::{Coded, encode_block};
+
+#[cfg(test)]
+mod tests;
