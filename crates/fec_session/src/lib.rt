@@ -10,3 +10,6 @@ mod encode;
 pub use decoder_core::Core;
 pub use encode::{Coded, encode_block};
 pub use peeling::Arrival;
+
+#[cfg(test)]
+mod tests;

@@ -5,15 +5,18 @@ use Rattle.sparse_rows.specs.Matrix.{Matrix, IsCode}
 use Rattle.sparse_rows.specs.Codeword.{symbol_at}
 use Rattle.sparse_rows.specs.Closure.{Set, HasSameMembers, members, closure}
 
--- the code and the length of a symbol; for each position whether it arrived, whether its symbol is kept, and the symbol;
--- whether the arrivals were seen to contradict one another; and the positions that the last arrival rebuilt
+-- a decoder
 pub record Decoder : Type 0 where
+  -- its code, and the length of a symbol
   pub matrix : Matrix
   pub len : ℕ
+  -- for each position whether it arrived, whether its symbol is kept, and that symbol
   pub arrived : List Bool
   pub known : List Bool
   pub symbols : List (List ℕ)
+  -- whether the arrivals contradict one another
   pub clashed : Bool
+  -- the positions that the last arrival rebuilt
   pub fresh : List ℕ
 
 -- the set of the positions whose flag is set

@@ -12,11 +12,12 @@ pub record IsConsistent (m : Matrix) (len : ℕ) (arrivals : List Arrival) (x : 
   pub fits : Fits arrivals x
   pub rows : SumsToZeroWithin m len (closure m (positions arrivals)) x
 
--- the flags are the positions that arrived; a symbol is kept exactly in their closure; where it isn't clashed the kept
--- symbols are consistent with the arrivals; where it is clashed nothing is
+-- the decoder stands for the arrivals
 pub record StandsFor (d : Decoder) (arrivals : List Arrival) : Type 0 where
+  -- the flags are the positions that arrived, and a symbol is kept exactly in their closure
   pub arrived : HasSameMembers (flagged d.arrived) (positions arrivals)
   pub known : HasSameMembers (flagged d.known) (closure d.matrix (positions arrivals))
+  -- where it isn't clashed the kept symbols are consistent with the arrivals, and where it is clashed nothing is
   pub agrees : d.clashed ≡ false → IsConsistent d.matrix d.len arrivals (kept d)
   pub contradicts : d.clashed ≡ true → (x : ℕ → List ℕ) → ¬ IsConsistent d.matrix d.len arrivals x
 

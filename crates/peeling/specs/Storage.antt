@@ -20,14 +20,16 @@ decoder_of p = record {
   fresh = p.store.fresh.items;
 }
 
--- flags and symbols for each position of a code, the known positions the closure of those that arrived, and room for one arrival
+-- the fields of a decoder
 pub record IsStored (p : Inside) : Type 0 where
+  -- flags and symbols for each position of a code, the known positions the closure of those that arrived
   pub code : IsCode p.code
   pub some : 1 ≤ p.len
   pub most : p.len ≤ 65535
   pub arrived : length p.store.arrived.items ≡ p.code.n
   pub laid : IsLaid p.code.n p.len p.store.known.items p.store.symbols.items
   pub closed : HasSameMembers (flagged p.store.known.items) (closure p.code (flagged p.store.arrived.items))
+  -- and room for one arrival
   pub before : length p.store.before.items ≡ p.code.n
   pub sum : length p.store.sum.items ≡ p.len
   pub room : p.code.n ≤ vec_capacity p.store.fresh

@@ -90,9 +90,9 @@ impl Peeler {
         }
     }
 
-    /// Takes in an encoding symbol: its position and its `len` bytes. It rebuilds what follows, and
-    /// takes no memory. A repeat with other bytes leaves those that are kept, and the arrivals then
-    /// contradict one another.
+    /// Takes in an encoding symbol, its position and its `len` bytes, and rebuilds what follows. A
+    /// repeat with other bytes leaves those that are kept, and the arrivals then contradict one
+    /// another. It takes no memory.
     pub fn arrive<L: Ledger>(&mut self, e: u32, bytes: &[u8], steps: &mut Steps<L>) -> Arrival
         requires position { e < self.old.matrix.n }
         requires length { length bytes.now ≡ self.old.len }
@@ -109,14 +109,15 @@ impl Peeler {
         }
     }
 
-    /// The positions that the last arrival rebuilt, rising, without its own.
+    /// The positions that the last arrival rebuilt, rising, without its own. It is empty before the
+    /// first arrival and after a repeat.
     pub fn fresh(&self) -> &[u32]
         ensures { result.now ≡ self.now.fresh }
     {
         &self.store.fresh
     }
 
-    /// The symbol at a position, where it is known.
+    /// The `len` bytes of the symbol at a position, where it is known.
     pub fn symbol(&self, e: u32) -> Option<&[u8]>
         requires { e < self.now.matrix.n }
         ensures known { IsSome result ↔ (flagged self.now.known e ≡ true) }
@@ -167,7 +168,9 @@ impl Peeler {
         &self.code
     }
 
-    /// Whether the arrivals contradict one another.
+    /// Whether the arrivals contradict one another: no symbols for the known positions agree with every
+    /// arrival and make each row of known symbols sum to zero. From then on the bytes of newly rebuilt
+    /// symbols mean nothing, while which positions are known stays exact.
     pub fn clashed(&self) -> bool
         ensures { result ≡ self.now.clashed }
     {

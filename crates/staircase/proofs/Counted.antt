@@ -1,11 +1,12 @@
 -- Rows to choose from, with a count for each row, as they are made and as one is taken.
-use Rattle.std.proofs.Common.{◌≡◌, ◌≢◌, ℕ, zero, suc, ◌+◌, ◌-◌, ◌%◌, ◌<◌, ◌≤◌, Bool, true, false, cond, eq-eqb, ne_eqb, ◌==◌, List, [], ◌∷◌, ◌++◌, length, map, get_or, set, take, drop, count_by, replicate, All, refl, sym, ap, ap₂, ◌∙◌, subst, arith, length-set, length-drop, length-append}
+use Rattle.std.proofs.Common.{◌≡◌, ℕ, zero, suc, ◌+◌, ◌-◌, ◌%◌, ◌<◌, ◌≤◌, Bool, true, false, cond, eq-eqb, ◌==◌, List, [], ◌∷◌, ◌++◌, length, map, get_or, set, drop, count_by, replicate, All, refl, sym, ap, ◌∙◌, subst, arith, length-set, length-drop}
 use Rattle.std.specs.List.{sum_by, range_with_len}
 use Rattle.std.proofs.lemmas.Bool.{eqb-true}
-use Rattle.std.proofs.lemmas.List.{get_or-drop, get_or-set_same, get_or-set_other, get_or_read, get_or_default, get_or-replicate, length-replicate, drop-set-add}
+use Rattle.std.proofs.lemmas.List.{get_or-drop, get_or-set_same, get_or-set_other, get_or_read, get_or-replicate, length-replicate, drop-set-add}
 use Rattle.std.proofs.lemmas.List.Elements.{All-nil, All-get_or, All-drop, All-set, All-push}
 use Rattle.std.proofs.lemmas.List.FromFn.{map-range_with_len_more, length-map-range_with_len}
 use Rattle.std.proofs.lemmas.List.Sums.{sum_by-set, sum_by_push, sum_by-drop_more, count_by-le-length}
+use Rattle.park_miller.specs.declared.generator.TheConstants.{MAX_BOUND}
 use Rattle.staircase.specs.LeftSide.{without}
 use Rattle.staircase.specs.Choices.{IsCounted}
 
@@ -137,7 +138,7 @@ module _ (rows many : ℕ) (items counts : List ℕ) (so_far : IsCircle rows man
     }
 
 -- all of them are left
-pub circle_counted : (rows many : ℕ) (items counts : List ℕ) → IsCircle rows many items counts → 1 ≤ rows → many ≤ 4194304 → rows ≤ 65536 → IsCounted 0 items counts
+pub circle_counted : (rows many : ℕ) (items counts : List ℕ) → IsCircle rows many items counts → 1 ≤ rows → many ≤ MAX_BOUND → rows ≤ 65536 → IsCounted 0 items counts
 circle_counted rows many items counts circle some most few = record {
   within = omega arith;
   most = omega (arith, many_is rows many items counts circle some);

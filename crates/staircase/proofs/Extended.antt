@@ -1,13 +1,12 @@
 -- Rows that gain their extra columns, one after the other.
-use Rattle.std.proofs.Common.{◌≡◌, ℕ, ◌+◌, ◌-◌, ◌<◌, ◌≤◌, ◌⊎◌, ⊎_elim, suc, length, get_or, Some, None, [], List, All, refl, ap, ◌∙◌, arith}
+use Rattle.std.proofs.Common.{◌≡◌, ℕ, ◌+◌, ◌-◌, ◌<◌, ⊎_elim, suc, length, Some, None, [], List, refl, ap, ◌∙◌, arith}
 use Rattle.std.specs.Option.{option_and_then}
 use Rattle.std.proofs.lemmas.List.Elements.{All-from_get_or}
 use Rattle.park_miller.specs.LimitedDraws.{LimitedDraws}
 use Rattle.sparse_rows.specs.Matrix.{Matrix, row_of}
 use Rattle.sparse_rows.proofs.Shape.{last_or_before}
 use Rattle.staircase.specs.Pick.{HasDrawn}
-use Rattle.staircase.specs.LeftSide.{DrawnMatrix, IsFilled, IsLeftSide, in_order, first_extra, second_extra, extras}
-use Rattle.staircase.specs.Choices.{drawn_matrix}
+use Rattle.staircase.specs.LeftSide.{DrawnMatrix, IsFilled, IsLeftSide, in_order, first_extra, second_extra, extras, drawn_matrix}
 use Rattle.staircase.proofs.FirstDraw.{HasDrawn-none, HasDrawn-trans}
 use Rattle.staircase.proofs.InOrder.{in_order-more}
 

@@ -1,5 +1,5 @@
 -- A matrix whose rows are being filled, and one entry more.
-use Rattle.std.proofs.Common.{◌≡◌, ◌≢◌, ℕ, ◌+◌, ◌-◌, ◌<◌, ◌≤◌, ◌⊎◌, ⊎_elim, Bool, true, false, ◌==◌, eq-eqb, ne_eqb, ◌||◌, nat_lt, List, [], ◌∷◌, ◌++◌, filter, length, get_or, set, replicate, All, refl, sym, ap, ◌∙◌, subst, arith, length-set}
+use Rattle.std.proofs.Common.{◌≡◌, ◌≢◌, ℕ, ◌-◌, ◌<◌, ◌≤◌, ⊎_elim, Bool, true, false, ◌==◌, eq-eqb, ne_eqb, ◌||◌, nat_lt, List, [], ◌∷◌, filter, length, get_or, replicate, All, refl, ap, ◌∙◌, arith, length-set}
 use Rattle.std.specs.List.{list_any}
 use Rattle.std.proofs.lemmas.Bool.{cases_lt}
 use Rattle.std.proofs.lemmas.List.{get_or-set_same, get_or-set_other, get_or_past, length-replicate}

@@ -1,13 +1,12 @@
 -- Rows with fewer than two source symbols, which gain some.
-use Rattle.std.proofs.Common.{◌≡◌, ◌≢◌, ℕ, ◌+◌, ◌-◌, ◌<◌, ◌≤◌, ◌⊎◌, ⊎_elim, Bool, true, false, ◌==◌, ◌&&◌, eq-eqb, ne_eqb, nat_lt, nat_le, List, [], ◌∷◌, ◌++◌, filter, length, get_or, count_by, Some, None, All, refl, sym, ap, ◌∙◌, subst, arith, zero-le, eq-or-lt_of_le, length-append}
+use Rattle.std.proofs.Common.{◌≡◌, ◌≢◌, ℕ, ◌<◌, ◌≤◌, ⊎_elim, Bool, true, false, ◌==◌, ◌&&◌, eq-eqb, ne_eqb, nat_lt, nat_le, List, [], ◌∷◌, filter, length, Some, None, refl, sym, subst, arith, zero-le, eq-or-lt_of_le, length-append}
 use Rattle.std.proofs.lemmas.Bool.{eqb-true, le-leb, lt-leb}
 use Rattle.std.proofs.lemmas.List.{get_or-set_same}
 use Rattle.std.proofs.lemmas.List.Sums.{count_by-le-length}
 use Rattle.park_miller.specs.LimitedDraws.{LimitedDraws}
-use Rattle.sparse_rows.specs.Matrix.{Matrix, row_of, has_entry, with_column, with_entry}
-use Rattle.staircase.specs.Pick.{pick, HasDrawn}
-use Rattle.staircase.specs.LeftSide.{IsFilled, lacks, source_degree, first_extra, second_extra, extras}
-use Rattle.staircase.specs.Choices.{drawn_matrix}
+use Rattle.sparse_rows.specs.Matrix.{Matrix, row_of, with_column, with_entry}
+use Rattle.staircase.specs.Pick.{pick}
+use Rattle.staircase.specs.LeftSide.{lacks, source_degree, first_extra, second_extra, drawn_matrix}
 use Rattle.staircase.proofs.FirstDraw.{IsOneDraw, IsSearching-none, search_ends, search_finds}
 use Rattle.staircase.proofs.Filled.{row_of-with_other}
 

@@ -1,5 +1,5 @@
 -- Steps that are taken one after the other.
-use Rattle.std.proofs.Common.{◌≡◌, ℕ, zero, suc, ◌+◌, ◌-◌, ◌<◌, Option, Some, None, refl, sym, ap, ◌∙◌, arith, add-one}
+use Rattle.std.proofs.Common.{◌≡◌, ℕ, zero, suc, ◌+◌, ◌-◌, ◌<◌, Option, Some, None, ap, ◌∙◌, arith, add-one}
 use Rattle.std.specs.Option.{option_and_then}
 use Rattle.staircase.specs.LeftSide.{in_order}
 

@@ -1,17 +1,15 @@
 -- The staircase behind a left side.
 use Rattle.std.proofs.Common.{◌≡◌, ℕ, zero, suc, ◌+◌, ◌-◌, ◌<◌, ◌≤◌, List, [], ◌∷◌, ◌++◌, map, length, get_or, set, drop, Some, None, All, refl, sym, ap, ap₂, ◌∙◌, subst, arith, append-nil, append_assoc, length-append}
-use Rattle.std.specs.List.{range_with_len, Any, Contains}
-use Rattle.std.specs.List.Sorted.{IsStrictlyIncreasing}
+use Rattle.std.specs.List.{range_with_len}
 use Rattle.std.proofs.lemmas.List.{get_or_at, set_at, drop_more, get_or-set_same, get_or_append_left, get_or_default, set-set}
 use Rattle.std.proofs.Math.Seq.{drop-length}
-use Rattle.std.proofs.lemmas.List.Elements.{All-nil, All-cons, All-append, All-weaker, All-get_or, Contains-append_right, Contains-push}
+use Rattle.std.proofs.lemmas.List.Elements.{All-nil, All-cons, All-append, All-weaker, All-get_or, Contains-push}
 use Rattle.std.proofs.lemmas.List.FromFn.{length-map-range_with_len, map-range_with_len_more, get_or-map-range_with_len}
 use Rattle.park_miller.specs.LimitedDraws.{LimitedDraws}
 use Rattle.sparse_rows.specs.Matrix.{Matrix, row_of, IsRow, HasShape, with_column, with_entry}
 use Rattle.sparse_rows.specs.Rows.{IsRising}
-use Rattle.sparse_rows.proofs.Rising.{with_column_between, rising_between, rising_cons}
-use Rattle.staircase.specs.LeftSide.{IsFilled, IsLeftSide, left_side}
-use Rattle.staircase.specs.Choices.{drawn_matrix}
+use Rattle.sparse_rows.proofs.Rising.{with_column_between, rising_between}
+use Rattle.staircase.specs.LeftSide.{IsLeftSide, left_side, drawn_matrix}
 use Rattle.staircase.specs.Staircase.{stair, stair_row, with_stair, with_stairs, staircase_matrix}
 
 -- a column above all others of a row goes to its end
@@ -42,7 +40,7 @@ next_stair m r some inside below = ap (λ (rows : List (List ℕ)). record m { r
     second : with_column (m.k + r) (row ++ (m.k + r - 1) ∷ []) ≡ stair_row m r
     second =
         with_last_column (m.k + r) (row ++ (m.k + r - 1) ∷ []) (All-append (λ c. c < m.k + r) row ((m.k + r - 1) ∷ [])
-            (All-weaker (λ c. c < m.k) (λ c. c < m.k + r) (λ c lt. omega arith) row below) (All-cons (λ c. c < m.k + r) (m.k + r - 1) [] (omega arith) (All-nil (λ c. c < m.k + r))))
+        (All-weaker (λ c. c < m.k) (λ c. c < m.k + r) (λ c lt. omega arith) row below) (All-cons (λ c. c < m.k + r) (m.k + r - 1) [] (omega arith) (All-nil (λ c. c < m.k + r))))
         ∙ append_assoc row ((m.k + r - 1) ∷ []) ((m.k + r) ∷ []) ∙ ap (λ last. row ++ last) (sym (stair_after m.k r some))
 
 -- the first rows with their repair symbols, and the others
@@ -103,7 +101,7 @@ stair_is_row k (suc i) row rising some =
     let higher : IsRising (k + i) row = record { rising = rising.rising; below = All-weaker (λ x. x < k) (λ x. x < k + i) (λ x lt. omega arith) row rising.below } in
     subst (IsRow k (k + suc i)) (append_assoc row ((k + i) ∷ []) ((k + suc i) ∷ []))
     (pushed_is_row k (k + suc i) (row ++ (k + i) ∷ []) (rising_push (k + i) (k + suc i) row higher (omega arith)) (omega (arith, length-append row ((k + i) ∷ [])))
-        (subst (λ x. x < k) (sym (get_or_append_left row ((k + i) ∷ []) 0 0 some)) (rising.below 0 0 some)))
+    (subst (λ x. x < k) (sym (get_or_append_left row ((k + i) ∷ []) 0 0 some)) (rising.below 0 0 some)))
 
 -- the staircase has the shape of a code
 pub stairs_have_shape : (k n : ℕ) (m : Matrix) → IsLeftSide k n m → HasShape (with_stairs m)

@@ -1,11 +1,11 @@
 -- The left side from its columns and its extra columns.
-use Rattle.std.proofs.Common.{◌≡◌, ℕ, zero, suc, ◌+◌, ◌-◌, ◌*◌, ◌%◌, ◌≤◌, min, List, [], length, map, replicate, Option, Some, None, refl, ap, ◌∙◌, arith}
+use Rattle.std.proofs.Common.{◌≡◌, ℕ, zero, suc, ◌-◌, ◌*◌, ◌%◌, ◌≤◌, min, [], map, replicate, Option, Some, None, refl, ap, ◌∙◌, arith}
 use Rattle.std.specs.List.{range_with_len}
 use Rattle.std.specs.Option.{option_map, option_and_then}
 use Rattle.park_miller.specs.LimitedDraws.{LimitedDraws}
 use Rattle.sparse_rows.specs.Matrix.{Matrix}
-use Rattle.staircase.specs.LeftSide.{DrawnMatrix, Filling, IsFilled, IsLeftSide, in_order, column, columns, extras, left_side}
-use Rattle.staircase.specs.Choices.{RowList, filling, drawn_matrix}
+use Rattle.staircase.specs.LeftSide.{DrawnMatrix, Filling, IsLeftSide, in_order, column, columns, extras, left_side, drawn_matrix}
+use Rattle.staircase.specs.Choices.{RowList, filling}
 use Rattle.staircase.proofs.Filled.{filled_none}
 
 -- columns that take no turn

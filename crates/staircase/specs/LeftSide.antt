@@ -1,5 +1,5 @@
 -- The left side of the matrix: the columns of the source symbols, row by row.
-use Rattle.std.specs.Prelude.{◌≡◌, ℕ, ◌+◌, ◌-◌, ◌*◌, ◌%◌, ◌<◌, ◌==◌, ◌&&◌, nat_lt, nat_le, min, Bool, true, not, if◌then◌else◌, Option, Some, None, List, [], length, map, drop, count_by, replicate, slice_index, slice_set, All}
+use Rattle.std.specs.Prelude.{◌≡◌, ℕ, ◌+◌, ◌-◌, ◌*◌, ◌%◌, ◌<◌, ◌==◌, ◌&&◌, nat_lt, nat_le, min, Bool, true, not, if◌then◌else◌, Option, Some, List, [], length, map, drop, count_by, replicate, slice_index, slice_set, All}
 use Rattle.std.specs.List.{list_any, range_with_len}
 use Rattle.std.specs.Option.{option_map, option_and_then}
 use Rattle.std.proofs.Common.{zero, suc}
@@ -21,6 +21,9 @@ lacks m c r = not (has_entry m r c)
 pub record DrawnMatrix : Type 0 where
   pub matrix : Matrix
   pub draws : LimitedDraws
+
+abbrev pub drawn_matrix : Matrix → LimitedDraws → DrawnMatrix
+drawn_matrix m g = record { matrix = m; draws = g }
 
 -- a matrix whose columns are being filled: its rows so far, the rows that are left to choose from, and the generator
 pub record Filling : Type 0 where
@@ -63,7 +66,7 @@ source_degree m r = count_by (λ c. nat_lt c m.k) (row_of m r)
 
 -- row r gains a picked column
 abbrev pub with_picked : ℕ → DrawnMatrix → Option Picked → Option DrawnMatrix
-with_picked r d picked = option_map (λ p. record { matrix = with_entry d.matrix r p.value; draws = p.draws }) picked
+with_picked r d picked = option_map (λ p. drawn_matrix (with_entry d.matrix r p.value) p.draws) picked
 
 -- a row without a source symbol gains any one
 unfoldable pub first_extra : ℕ → DrawnMatrix → Option DrawnMatrix
@@ -79,7 +82,7 @@ extras r d = option_and_then (second_extra r) (first_extra r d)
 
 -- the left side of n - k rows: the columns are filled, and then the rows gain their extra ones; none where that takes more draws than there may be
 unfoldable pub left_side : ℕ → ℕ → ℕ → LimitedDraws → Option DrawnMatrix
-left_side k n n1 g = option_and_then (in_order (n - k) extras) (option_map (λ f. record { matrix = f.matrix; draws = f.draws }) (columns k n n1 g))
+left_side k n n1 g = option_and_then (in_order (n - k) extras) (option_map (λ f. drawn_matrix f.matrix f.draws) (columns k n n1 g))
 
 -- of n encoding symbols the first k are the source symbols, and the columns of each of the n - k rows rise and lie below a bound
 pub record IsFilled (k n bound : ℕ) (m : Matrix) : Type 0 where

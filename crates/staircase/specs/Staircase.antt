@@ -3,9 +3,8 @@ use Rattle.std.specs.Prelude.{ℕ, ◌+◌, Option, List, [], ◌∷◌, ◌++�
 use Rattle.std.specs.List.{range_with_len}
 use Rattle.std.specs.Option.{option_map}
 use Rattle.std.proofs.Common.{zero, suc}
-use Rattle.park_miller.specs.LimitedDraws.{LimitedDraws}
 use Rattle.sparse_rows.specs.Matrix.{Matrix, row_of}
-use Rattle.staircase.specs.LeftSide.{DrawnMatrix, left_side}
+use Rattle.staircase.specs.LeftSide.{left_side}
 
 -- the repair symbols of row i: its own, k + i, behind that of the row before
 abbrev pub stair : ℕ → ℕ → List ℕ

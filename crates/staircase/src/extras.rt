@@ -1,9 +1,8 @@
 // The extra columns of rows with fewer than two source symbols.
-ghost use Rattle.std.specs.Prelude.{◌≡◌, ◌<◌, ◌≤◌, ◌-◌, ℕ, length, Some, None, Err, All, OnOk};
+ghost use Rattle.std.specs.Prelude.{◌≡◌, ◌<◌, ◌≤◌, ◌-◌, ℕ, length, Some, None, Err, OnOk};
 ghost use Rattle.sparse_rows.specs.Matrix.{row_of};
 ghost use Rattle.staircase.specs.Pick.{HasDrawn};
-ghost use Rattle.staircase.specs.LeftSide.{IsFilled, IsLeftSide, first_extra, second_extra, extras, in_order};
-ghost use Rattle.staircase.specs.Choices.{drawn_matrix};
+ghost use Rattle.staircase.specs.LeftSide.{IsFilled, IsLeftSide, first_extra, second_extra, extras, in_order, drawn_matrix};
 
 use crate::picks::pick_column;
 use crate::refusal::BuildRefusal;

@@ -1,9 +1,9 @@
 // The left side of the matrix: the columns of the source symbols.
-ghost use Rattle.std.specs.Prelude.{◌≡◌, ◌<◌, ◌≤◌, ◌+◌, ◌-◌, ◌*◌, min, false, ℕ, length, Some, None, Err, IfOk, OnOk, OnErr};
-ghost use Rattle.sparse_rows.specs.Matrix.{row_of, has_entry, with_entry};
+ghost use Rattle.std.specs.Prelude.{◌≡◌, ◌<◌, ◌≤◌, ◌+◌, ◌-◌, false, Some, None, Err, IfOk, OnOk, OnErr};
+ghost use Rattle.sparse_rows.specs.Matrix.{has_entry, with_entry};
 ghost use Rattle.staircase.specs.Pick.{HasDrawn};
-ghost use Rattle.staircase.specs.LeftSide.{IsFilled, IsLeftSide, turn, column, left_side, in_order};
-ghost use Rattle.staircase.specs.Choices.{filling, drawn_matrix, blocked_count};
+ghost use Rattle.staircase.specs.LeftSide.{IsFilled, IsLeftSide, turn, column, left_side, in_order, drawn_matrix};
+ghost use Rattle.staircase.specs.Choices.{filling, blocked_count};
 
 use crate::choices::Choices;
 use crate::extras::add_extras;
@@ -14,9 +14,9 @@ use sparse_rows::RowsBuilder;
 use std::alloc::Global;
 
 /// The left side of the matrix of a code of n encoding symbols, of which the first k are the source
-/// symbols (RFC 5170, section 5.4): each source symbol goes into `n1` rows, or into all where there
-/// are fewer, and then a row with fewer than two source symbols gains some. After a refusal `g` has
-/// made some of its draws.
+/// symbols (RFC 5170, section 6.2): each source symbol goes into `n1` rows, or into all where there
+/// are fewer, and then a row with fewer than two source symbols gains some. `DrawLimit` comes where
+/// that takes more draws than `g` has left. After a refusal `g` has made some of its draws.
 pub fn left(
     alloc: Global,
     k: u32,

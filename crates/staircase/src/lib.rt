@@ -4,11 +4,11 @@
 //! stated by a shrinking list and first good draws, or that the draws did not suffice.
 #![tactic(auto)]
 
-mod refusal;
-mod picks;
 mod choices;
 mod extras;
 mod left_side;
+mod picks;
+mod refusal;
 mod stairs;
 
 pub use left_side::left;

@@ -9,7 +9,12 @@ use park_miller::{Draws, MAX_BOUND, Over};
 use sparse_rows::RowsBuilder;
 
 // A place of the choices whose row is without column c.
-pub fn pick_choice(rows: &RowsBuilder, choices: &Choices, c: u32, g: &mut Draws) -> Result<u32, Over>
+pub fn pick_choice(
+    rows: &RowsBuilder,
+    choices: &Choices,
+    c: u32,
+    g: &mut Draws,
+) -> Result<u32, Over>
     requires some { 1 ≤ length choices.now.list }
     requires rows { choices.now.rows ≡ rows.now.n - rows.now.k }
     ensures picked { IfOk result (λ i. pick (length choices.now.list) (λ place. lacks rows.now c (slice_index choices.now.list place)) g.old ≡ Some (record { value = i; draws = g.new })) }

@@ -1,5 +1,5 @@
 // The right side of the staircase, and the code.
-ghost use Rattle.std.specs.Prelude.{◌≡◌, ◌<◌, ◌≤◌, ◌+◌, ◌-◌, ℕ, length, Some, None, Err, All, IfOk, OnOk};
+ghost use Rattle.std.specs.Prelude.{◌≡◌, ◌<◌, ◌≤◌, ◌+◌, ◌-◌, length, Some, None, Err, All, IfOk, OnOk};
 ghost use Rattle.staircase.specs.LeftSide.{IsLeftSide};
 ghost use Rattle.sparse_rows.specs.Matrix.{row_of};
 ghost use Rattle.staircase.specs.Staircase.{with_stair, with_stairs, staircase_matrix};
@@ -18,9 +18,9 @@ pub struct Built {
     pub draws: u64,
 }
 
-/// The LDPC-Staircase code of RFC 5170, section 5: n encoding symbols, of which the first k are the
-/// source symbols, each of which goes into `n1` rows where there are as many. The draws begin at the
-/// seed, and there may be `limit` of them.
+/// The LDPC-Staircase code (RFC 5170, section 6.2) of n encoding symbols, of which the first k are the
+/// source symbols: the left side, whose draws begin at the seed, and in each row its own repair symbol
+/// behind that of the row before. `DrawLimit` comes where the left side takes more than `limit` draws.
 pub fn staircase(
     alloc: Global,
     k: u32,

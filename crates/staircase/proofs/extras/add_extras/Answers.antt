@@ -1,7 +1,6 @@
 use Rattle.std.proofs.Common.{◌∙◌, arith}
 use Rattle.std.proofs.lemmas.Result.{err_from_is_err_and}
-use Rattle.staircase.specs.LeftSide.{extras}
-use Rattle.staircase.specs.Choices.{drawn_matrix}
+use Rattle.staircase.specs.LeftSide.{extras, drawn_matrix}
 use Rattle.staircase.proofs.FirstDraw.{HasDrawn-trans}
 use Rattle.staircase.proofs.InOrder.{in_order-none}
 use Rattle.staircase.proofs.Extended.{extras_over_first, extras_over_second, AreExtended-more, left_side_is}

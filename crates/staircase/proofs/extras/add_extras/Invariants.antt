@@ -1,4 +1,4 @@
-use Rattle.staircase.specs.Choices.{drawn_matrix}
+use Rattle.staircase.specs.LeftSide.{drawn_matrix}
 use Rattle.staircase.proofs.Extended.{AreExtended}
 use Rattle.staircase.proofs.extras.add_extras.Given as goal
 

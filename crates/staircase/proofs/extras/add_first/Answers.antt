@@ -1,6 +1,5 @@
 use Rattle.std.proofs.Common.{refl, sym, ap, ◌∙◌, Some}
-use Rattle.staircase.specs.Choices.{drawn_matrix}
-use Rattle.staircase.specs.LeftSide.{IsFilled}
+use Rattle.staircase.specs.LeftSide.{drawn_matrix}
 use Rattle.staircase.proofs.Filled.{filled_with}
 use Rattle.staircase.proofs.Gains.{first_stays, first_over, first_gains}
 use Rattle.staircase.proofs.extras.add_first.Goals as goal

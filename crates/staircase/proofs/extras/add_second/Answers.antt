@@ -1,5 +1,5 @@
-use Rattle.std.proofs.Common.{sym, ap, ◌∙◌, Some, arith}
-use Rattle.staircase.specs.Choices.{drawn_matrix}
+use Rattle.std.proofs.Common.{sym, ap, ◌∙◌, Some}
+use Rattle.staircase.specs.LeftSide.{drawn_matrix}
 use Rattle.staircase.proofs.Filled.{filled_with}
 use Rattle.staircase.proofs.Gains.{second_stays, second_stays_alone, second_over, second_gains}
 use Rattle.staircase.proofs.extras.add_second.Goals.{else-source_degree-eq1-via-then-source_degree-eq1+else-k-ge2, else-source_degree-eq1-via-else-source_degree-eq1}
@@ -19,6 +19,6 @@ returns-in_ok-insert-clause-filled c = rw c.in_ok-insert.ensures.ok (filled_with
 
 pub returns-else-source_degree-eq1-clause-ok : goal.returns-else-source_degree-eq1-clause-ok
 returns-else-source_degree-eq1-clause-ok c = elim c.else-source_degree-eq1.branch [
-    else-source_degree-eq1-via-then-source_degree-eq1+else-k-ge2 w ↦ second_stays_alone c.args.rows.now c.args.g.now c.args.r c.args.k c.source_degree.result c.requires.filled.source c.source_degree.ensures w.if-source_degree-eq1.true w.if-k-ge2.false
+  | else-source_degree-eq1-via-then-source_degree-eq1+else-k-ge2 w ↦ second_stays_alone c.args.rows.now c.args.g.now c.args.r c.args.k c.source_degree.result c.requires.filled.source c.source_degree.ensures w.if-source_degree-eq1.true w.if-k-ge2.false
   | else-source_degree-eq1-via-else-source_degree-eq1 w ↦ second_stays c.args.rows.now c.args.g.now c.args.r c.args.k c.source_degree.result c.requires.filled.source c.source_degree.ensures w.if-source_degree-eq1.false
-  ]
+]

@@ -2,7 +2,6 @@ use Rattle.std.proofs.Common.{rules, arith, Some, sym, ap, ap₂, ◌∙◌}
 use Rattle.std.proofs.lemmas.Result.{IfOk-weaker, on_err_weaker}
 use Rattle.sparse_rows.specs.Matrix.{has_entry, with_entry}
 use Rattle.staircase.specs.Choices.{blocked_count, filling}
-use Rattle.staircase.specs.LeftSide.{turn, lacks, without}
 use Rattle.staircase.proofs.Blocked.{blocked_without}
 use Rattle.staircase.proofs.Turns.{turn_from_rest, turn_from_rest_over, turn_from_rows, turn_from_rows_over}
 use Rattle.staircase.proofs.left_side.choose_row.Goals as goal

@@ -3,7 +3,7 @@ use Rattle.staircase.specs.LeftSide.{turn}
 use Rattle.staircase.specs.Choices.{filling}
 use Rattle.staircase.proofs.FirstDraw.{HasDrawn-trans}
 use Rattle.staircase.proofs.InOrder.{in_order-none}
-use Rattle.staircase.proofs.Columns.{IsTurned-none, IsTurned-more, blocked_bound}
+use Rattle.staircase.proofs.Columns.{IsTurned-none, IsTurned-more}
 use Rattle.staircase.proofs.left_side.fill_column.Goals as goal
 
 pub loop-init : goal.loop-init

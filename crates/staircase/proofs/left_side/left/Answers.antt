@@ -1,6 +1,6 @@
 use Rattle.std.proofs.Common.{Some, None, sym, ap, ◌∙◌}
 use Rattle.std.proofs.lemmas.Result.{err_from_is_err_and}
-use Rattle.staircase.specs.Choices.{drawn_matrix}
+use Rattle.staircase.specs.LeftSide.{drawn_matrix}
 use Rattle.staircase.proofs.FirstDraw.{HasDrawn-trans}
 use Rattle.staircase.proofs.Whole.{left_side_none, left_side_over, left_side_is}
 use Rattle.staircase.proofs.left_side.left.Goals as goal

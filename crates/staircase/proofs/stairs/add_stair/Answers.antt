@@ -1,4 +1,4 @@
-use Rattle.std.proofs.Common.{◌+◌, ◌-◌, sym, ap, ◌∙◌, arith}
+use Rattle.std.proofs.Common.{◌+◌, ◌-◌, ap, ◌∙◌, arith}
 use Rattle.sparse_rows.specs.Matrix.{with_entry}
 use Rattle.staircase.proofs.RightSide.{first_stair, next_stair}
 use Rattle.staircase.proofs.stairs.add_stair.Goals as goal

@@ -1,7 +1,6 @@
-use Rattle.std.proofs.Common.{rules, ◌≡◌, sym, ap, ap₂, ◌∙◌, subst, Some, ℕ}
+use Rattle.std.proofs.Common.{◌≡◌, sym, ap₂, ◌∙◌, subst, Some, ℕ}
 use Rattle.std.proofs.lemmas.Result.{err_from_is_err_and, IfOk-at_ok}
 use Rattle.sparse_rows.specs.Matrix.{HasShape, Matrix}
-use Rattle.staircase.specs.Staircase.{CountedMatrix}
 use Rattle.staircase.proofs.RightSide.{staircase_over, staircase_is, stairs_have_shape}
 use Rattle.staircase.proofs.stairs.staircase.Goals as goal
 

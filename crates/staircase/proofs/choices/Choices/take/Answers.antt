@@ -1,6 +1,6 @@
-use Rattle.std.proofs.Common.{◌-◌, List, ℕ, sym, ap, ap₂, ◌∙◌, subst, arith, length-set}
+use Rattle.std.proofs.Common.{◌-◌, List, ℕ, ap, ap₂, ◌∙◌, length-set}
 use Rattle.staircase.specs.LeftSide.{without}
-use Rattle.staircase.proofs.Counted.{row_below, row_is, rest_is, positive, taken}
+use Rattle.staircase.proofs.Counted.{row_below, rest_is, positive, taken}
 use Rattle.staircase.proofs.choices.Choices.take.Goals as goal
 
 pub overflow_sub-index_mut : goal.overflow_sub-index_mut
