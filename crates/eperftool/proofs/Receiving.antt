@@ -94,9 +94,11 @@ took_no_more left mid now o size first second arrivals header_is p (q, taken, in
     (spelled arrivals ++ q, Consumes-trans left mid now (spelled arrivals) q p.taken taken, inl (short.0, subst IsNoPacketFile whole (no_file_short o size arrivals q header_is p.packets short.1 short.2)))
 took_no_more left mid now o size first second arrivals header_is p (q, taken, inr piece) =
     let whole : (rest : List ℕ) → ((header o size ++ spelled arrivals) ++ q) ++ rest ≡ header o size ++ ((spelled arrivals ++ q) ++ rest) = λ rest.
-    ap (λ (l : List ℕ). l ++ rest) (append_assoc (header o size) (spelled arrivals) q) ∙ append_assoc (header o size) (spelled arrivals ++ q) rest in
-    (spelled arrivals ++ q, Consumes-trans left mid now (spelled arrivals) q p.taken taken,
-      inr (λ rest. subst IsNoPacketFile (whole rest) (no_file_piece o size arrivals q header_is p.packets piece.0 (λ e s is one. piece.1 (e, s) one is) rest)))
+    ap (λ (l : List ℕ). l ++ rest) (append_assoc (header o size) (spelled arrivals) q) ∙ append_assoc (header o size) (spelled arrivals ++ q) rest in (
+      spelled arrivals ++ q,
+      Consumes-trans left mid now (spelled arrivals) q p.taken taken,
+      inr (λ rest. subst IsNoPacketFile (whole rest) (no_file_piece o size arrivals q header_is p.packets piece.0 (λ e s is one. piece.1 (e, s) one is) rest)),
+    )
 
 -- more packets than a file has
 pub took_too_many : (left now : Option (List ℕ)) (o : EncodeOptions) (size : ℕ) (first second : Option Decoder) (arrivals : List Arrival) → IsFileHeader o size

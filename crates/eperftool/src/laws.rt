@@ -3,7 +3,7 @@ ghost use Rattle.eperftool.specs.Command.{WordsHaveOneMeaning};
 ghost use Rattle.eperftool.specs.File.{EncodingIsOne};
 ghost use Rattle.eperftool.specs.Received.{PacketFileIsOne};
 
-/// The words ask for at most one `encode`.
+/// The words ask for at most one command.
 pub fn one_meaning_for_the_words()
     ensures { WordsHaveOneMeaning }
 {}

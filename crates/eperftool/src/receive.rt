@@ -158,11 +158,7 @@ fn take_packet<S: Source>(
 }
 
 // Takes in a piece that is as long as a packet. `Unbuilt` where it is no packet of the file.
-fn take_piece(
-    header: &FileHeader,
-    piece: &[u8],
-    decoder: &mut Option<Core>,
-) -> Result<(), Status>
+fn take_piece(header: &FileHeader, piece: &[u8], decoder: &mut Option<Core>) -> Result<(), Status>
     requires header { IsFileHeader header.now.options header.now.transfer_length }
     requires piece { length piece.now ≡ 4 + header.now.options.symbol }
     requires decoder { IsFor header.now.options header.now.transfer_length decoder.old }
@@ -175,11 +171,7 @@ fn take_piece(
     let esi = BigEndian::read_u32(piece);
     match decoder {
         Some(core) if esi < core.code().n() => {
-            core.arrive(
-                esi,
-                &piece[IDENTIFIER_LEN..],
-                &mut Steps::<Tally>::start(),
-            );
+            core.arrive(esi, &piece[IDENTIFIER_LEN..], &mut Steps::<Tally>::start());
             Ok(())
         }
         _ => Err(Status::Unbuilt),

@@ -92,7 +92,7 @@ fn reads_nothing_for_other_words(rt: HostRuntime) -> Result<(), Fail> {
     let [command, codec, width, block, symbol] = ENCODE;
     let cases: [&[&str]; 12] = [
         &[],
-        &["decode"],
+        &["decode", "--draws=5"],
         &[command, codec, width, block],
         &[command, codec, width, block, symbol, "--draws=5"],
         &[command, codec, block, width, symbol],
@@ -146,6 +146,159 @@ fn tells_a_write_that_fails_at_any_byte(rt: HostRuntime) -> Result<(), Fail> {
         assert_eq!(rt; left.status, Status::WriteFault, "at {room}");
         assert_eq!(rt; left.output.bytes(), file.as_slice());
         assert_eq!(rt; left.report.bytes(), &REPORT.as_bytes()[..room]);
+    }
+    Ok(())
+}
+
+// A packet file of the object with these packets, each an ESI and its symbol, and then some bytes.
+fn received(alloc: Global, packets: &[(u8, u8)], behind: &[u8]) -> Result<Vec<u8>, Fail> {
+    let mut file = packet_file(alloc, 5, &[])?;
+    for (esi, symbol) in packets {
+        file.extend_from_slice(&[0, 0, 0, *esi, *symbol])?;
+    }
+    file.extend_from_slice(behind)?;
+    Ok(file)
+}
+
+const PEELED: &str = "block 0 peeled\npackets 6\n";
+
+const STUCK: &str = "block 0 stuck\npackets 6\n";
+
+const CONTRADICTED: &str = "block 0 contradicted\npackets 2\n";
+
+const UNBUILT: &str = "fault: unbuilt\n";
+
+#[test]
+fn tells_what_the_packets_determine(rt: HostRuntime) -> Result<(), Fail> {
+    let cases: [(&[(u8, u8)], &[u8], Status, &str); 9] = [
+        // Rebuilt from the repair symbols, with a repeat at the end.
+        (
+            &[(9, 4), (7, 9), (4, 16), (5, 7), (0, 1), (0, 1)],
+            b"",
+            Status::Done,
+            PEELED,
+        ),
+        (
+            &[(2, 4), (5, 7), (6, 0x18), (7, 9), (8, 0x12), (9, 4)],
+            b"",
+            Status::Stuck,
+            STUCK,
+        ),
+        (&[], b"", Status::Stuck, "block 0 stuck\npackets 0\n"),
+        (&[(2, 4), (9, 5)], b"", Status::NoCodeword, CONTRADICTED),
+        (&[(9, 5), (2, 4)], b"", Status::NoCodeword, CONTRADICTED),
+        (&[(2, 4), (2, 5)], b"", Status::NoCodeword, CONTRADICTED),
+        // A packet that is cut short, the ESI behind the last one, and a second source block.
+        (&[(0, 1)], b"\0\0", Status::Unbuilt, UNBUILT),
+        (&[(10, 1)], b"", Status::Unbuilt, UNBUILT),
+        (&[(0, 1)], b"\0\x10\0\0\x01", Status::Unbuilt, UNBUILT),
+    ];
+    for (packets, behind, status, text) in cases {
+        let file = received(rt.alloc(), packets, behind)?;
+        let left = run_over(rt.alloc(), &["decode"], &file, None, 200, 100)?;
+        let object: &[u8] = if status == Status::Done { &OBJECT } else { &[] };
+        assert_eq!(rt; left.status, status);
+        assert_eq!(rt; left.output.bytes(), object);
+        assert_eq!(rt; left.report.bytes(), text.as_bytes());
+    }
+    Ok(())
+}
+
+#[test]
+fn gives_back_what_was_encoded(rt: HostRuntime) -> Result<(), Fail> {
+    let file = packet_file(rt.alloc(), 5, &WORD)?;
+    let left = run_over(rt.alloc(), &["decode"], &file, None, 200, 100)?;
+    assert_eq!(rt; left.status, Status::Done);
+    assert_eq!(rt; left.output.bytes(), OBJECT.as_slice());
+    assert_eq!(rt;
+        left.report.bytes(),
+        b"block 0 peeled\npackets 10\n".as_slice()
+    );
+    Ok(())
+}
+
+#[test]
+fn decodes_a_file_without_a_block(rt: HostRuntime) -> Result<(), Fail> {
+    let file = packet_file(rt.alloc(), 0, &[])?;
+    let left = run_over(rt.alloc(), &["decode"], &file, None, 200, 100)?;
+    assert_eq!(rt; left.status, Status::Done);
+    assert_eq!(rt; left.output.bytes().len(), 0);
+    assert_eq!(rt; left.report.bytes(), b"packets 0\n".as_slice());
+    Ok(())
+}
+
+// The bytes with the lowest bit of one of them turned.
+fn flipped(alloc: Global, bytes: &[u8], place: usize) -> Result<Vec<u8>, Fail> {
+    let mut wrong = Vec::new(alloc);
+    for (i, byte) in bytes.iter().enumerate() {
+        wrong.push(if i == place { *byte ^ 1 } else { *byte })?;
+    }
+    Ok(wrong)
+}
+
+#[test]
+fn refuses_a_header_with_a_wrong_byte(rt: HostRuntime) -> Result<(), Fail> {
+    let file = packet_file(rt.alloc(), 5, &[])?;
+    // The magic, the version, the codec, the reserved bytes, a transfer length above the block, the
+    // groups, and the greatest n.
+    for place in [0, 3, 4, 5, 6, 7, 12, 16, 20, 21] {
+        let wrong = flipped(rt.alloc(), &file, place)?;
+        let left = run_over(rt.alloc(), &["decode"], &wrong, None, 200, 100)?;
+        assert_eq!(rt; left.status, Status::Unbuilt, "at {place}");
+        assert_eq!(rt; left.output.bytes().len(), 0);
+        assert_eq!(rt; left.report.bytes(), UNBUILT.as_bytes());
+    }
+    Ok(())
+}
+
+#[test]
+fn refuses_a_header_that_is_cut_short(rt: HostRuntime) -> Result<(), Fail> {
+    let file = packet_file(rt.alloc(), 5, &[])?;
+    for len in 0..file.len() {
+        let left = run_over(rt.alloc(), &["decode"], &file[..len], None, 200, 100)?;
+        assert_eq!(rt; left.status, Status::Unbuilt, "at {len}");
+        assert_eq!(rt; left.report.bytes(), UNBUILT.as_bytes());
+    }
+    Ok(())
+}
+
+#[test]
+fn cuts_the_object_to_its_length(rt: HostRuntime) -> Result<(), Fail> {
+    // Three bytes in symbols of two: the codeword of 01 02 | 04 00 in a grid of width 2.
+    let header = b"OFPK\x01\xc8\0\0\0\0\0\0\0\x03\0\x02\x01\0\0\x20\0\x05\0\0\0\x02";
+    let mut file = Vec::from_slice(rt.alloc(), header)?;
+    // The sum of the row, and the first source symbol.
+    file.extend_from_slice(&[0, 0, 0, 2, 5, 2, 0, 0, 0, 0, 1, 2])?;
+    let left = run_over(rt.alloc(), &["decode"], &file, None, 200, 100)?;
+    assert_eq!(rt; left.status, Status::Done);
+    assert_eq!(rt; left.output.bytes(), b"\x01\x02\x04".as_slice());
+    assert_eq!(rt;
+        left.report.bytes(),
+        b"block 0 peeled\npackets 2\n".as_slice()
+    );
+    Ok(())
+}
+
+#[test]
+fn tells_a_decode_whose_input_fails_at_any_byte(rt: HostRuntime) -> Result<(), Fail> {
+    let file = packet_file(rt.alloc(), 5, &WORD)?;
+    for stop in 0..77 {
+        let left = run_over(rt.alloc(), &["decode"], &file, Some(stop), 200, 100)?;
+        assert_eq!(rt; left.status, Status::ReadFault, "at {stop}");
+        assert_eq!(rt; left.output.bytes().len(), 0);
+        assert_eq!(rt; left.report.bytes(), b"fault: read\n".as_slice());
+    }
+    Ok(())
+}
+
+#[test]
+fn tells_a_decode_whose_output_fails_at_any_byte(rt: HostRuntime) -> Result<(), Fail> {
+    let file = packet_file(rt.alloc(), 5, &WORD)?;
+    for room in 0..OBJECT.len() {
+        let left = run_over(rt.alloc(), &["decode"], &file, None, room, 100)?;
+        assert_eq!(rt; left.status, Status::WriteFault, "at {room}");
+        assert_eq!(rt; left.output.bytes(), &OBJECT[..room]);
+        assert_eq!(rt; left.report.bytes(), b"fault: write\n".as_slice());
     }
     Ok(())
 }

@@ -16,22 +16,25 @@ pub returns-in_err-packets-clause-taken : goal.returns-in_err-packets-clause-tak
 returns-in_err-packets-clause-taken g c =
     let left = g.S.Source.left in
     let h = c.in_ok-header.header in
-    let last = c.in_err-packets.ensures.taken in
-    (header h.options h.transfer_length ++ last.0,
-      Consumes-trans (left c.args.input.now) (left c.read_header.new.input) (left c.receive_packets.new.input) (header h.options h.transfer_length) last.0 c.in_ok-header.ensures.bytes last.1)
+    let last = c.in_err-packets.ensures.taken in (
+      header h.options h.transfer_length ++ last.0,
+      Consumes-trans (left c.args.input.now) (left c.read_header.new.input) (left c.receive_packets.new.input) (header h.options h.transfer_length) last.0 c.in_ok-header.ensures.bytes last.1,
+    )
 
 pub returns-clause-received : goal.returns-clause-received
 returns-clause-received g c =
     let left = g.S.Source.left in
     let h = c.in_ok-header.header in
-    let read = c.in_ok-packets.ensures.packets in
-    (read.0, record {
-      file = file_read (left c.args.input.now) (left c.read_header.new.input) (left c.receive_packets.new.input) h.options h.transfer_length
-        c.in_ok-decoder.decoder c.receive_packets.new.decoder c.in_ok-packets.packets read.0 c.in_ok-header.ensures.fields c.in_ok-header.ensures.bytes read.1;
-      counted = read.1.counted;
-      decoder = c.receive_packets.ensures.kept;
-      stands = read.1.took.stands [] c.in_ok-decoder.ensures.empty;
-    })
+    let read = c.in_ok-packets.ensures.packets in (
+      read.0,
+      record {
+        file = file_read (left c.args.input.now) (left c.read_header.new.input) (left c.receive_packets.new.input) h.options h.transfer_length
+            c.in_ok-decoder.decoder c.receive_packets.new.decoder c.in_ok-packets.packets read.0 c.in_ok-header.ensures.fields c.in_ok-header.ensures.bytes read.1;
+        counted = read.1.counted;
+        decoder = c.receive_packets.ensures.kept;
+        stands = read.1.took.stands [] c.in_ok-decoder.ensures.empty;
+      },
+    )
 
 pub returns-clause-taken : goal.returns-clause-taken
 returns-clause-taken g c =

@@ -23,9 +23,11 @@ returns-in-Ok-false-clause-packets g c =
     let left = g.S.Source.left in
     let came = c.loop-packets.invariant.came in
     let last = c.take_packet.ensures.end (c.in-Ok-false.is ∙ ap Ok c.in-Ok-false.field-0-test) in
-    let most : c.loop-packets.packets ≤ 16777216 = omega (arith, c.loop-packets-test.true) in
-    (came.0, took_end (left c.args.input.now) (left c.loop-packets.input) (left c.take_packet.new.input) c.args.header.now.options c.args.header.now.transfer_length
-    c.args.decoder.now c.loop-packets.decoder c.take_packet.new.decoder c.loop-packets.packets came.0 came.1 last.0 last.1 last.2 came.2 most)
+    let most : c.loop-packets.packets ≤ 16777216 = omega (arith, c.loop-packets-test.true) in (
+      came.0,
+      took_end (left c.args.input.now) (left c.loop-packets.input) (left c.take_packet.new.input) c.args.header.now.options c.args.header.now.transfer_length
+          c.args.decoder.now c.loop-packets.decoder c.take_packet.new.decoder c.loop-packets.packets came.0 came.1 last.0 last.1 last.2 came.2 most,
+    )
 
 pub returns-in-Err-take_packet-clause-read : goal.returns-in-Err-take_packet-clause-read
 returns-in-Err-take_packet-clause-read g c is =
@@ -62,9 +64,12 @@ loop-packets-preserved g c =
     record {
       long = omega (arith, length-take-le piece.len all (omega (arith, size, piece.ok.0)), piece.ok.0, c.loop-packets.invariant.long);
       kept = c.take_packet.ensures.kept;
-      came = (came.0 ++ next.0 ∷ [],
+      came = (
+        came.0 ++ next.0 ∷ [],
         took_more (left c.args.input.now) (left c.loop-packets.input) (left c.take_packet.new.input) c.args.header.now.options c.args.header.now.transfer_length
-        c.args.decoder.now c.loop-packets.decoder c.take_packet.new.decoder came.0 (next.0 ∷ []) came.1 next.1, omega (arith, length-append came.0 (next.0 ∷ []), came.2));
+            c.args.decoder.now c.loop-packets.decoder c.take_packet.new.decoder came.0 (next.0 ∷ []) came.1 next.1,
+        omega (arith, length-append came.0 (next.0 ∷ []), came.2),
+      );
       later = search rules;
     }
 
