@@ -1,5 +1,5 @@
 -- What a decoder of all packets determines.
-use Rattle.std.proofs.Common.{◌≡◌, ℕ, Bool, eqb-true, ◌*◌, ◌<◌, ◌≤◌, ◌==◌, inl, inr, true, false, if◌then◌else◌, List, [], length, get_or, take, map, All, Option, None, Some, refl, sym, ap, ap₂, ◌∙◌, subst, arith}
+use Rattle.std.proofs.Common.{◌≡◌, ℕ, Bool, eqb-true, ◌<◌, ◌≤◌, ◌==◌, inl, inr, true, false, if◌then◌else◌, List, [], length, get_or, take, map, All, Option, None, Some, refl, sym, ap, ◌∙◌, subst, arith}
 use Rattle.std.specs.List.{flat_map, range_with_len}
 use Rattle.std.proofs.lemmas.List.Elements.{All-from_get_or, All-map}
 use Rattle.std.proofs.lemmas.List.Folds.{flat_map-map}
@@ -21,7 +21,6 @@ use Rattle.eperftool.specs.declared.command.EncodeOptions.{EncodeOptions}
 use Rattle.eperftool.specs.declared.receive.Received.{Received}
 use Rattle.eperftool.specs.declared.decode.BlockOutcome.{BlockOutcome}
 use Rattle.eperftool.specs.declared.decode.BlockOutcome.TheVariants.{Absent, Peeled, Stuck, Contradicted}
-use Rattle.eperftool.proofs.Sizes.{ceil_room}
 
 -- ---- the symbols of the columns, as a word
 

@@ -1,5 +1,5 @@
 -- Packets that are taken one after the other.
-use Rattle.std.proofs.Common.{◌≡◌, ◌⊎◌, ℕ, zero, suc, ◌+◌, ◌<◌, List, [], ◌∷◌, ◌++◌, length, get_or, take, drop, All, ◌-◌, ◌≢◌, Fits, w8, rules, length-drop, arith, Some, refl, sym, ap, ◌∙◌, subst, inl, inr, ◌≤◌, append_assoc, append-nil, Option}
+use Rattle.std.proofs.Common.{◌≡◌, ℕ, zero, suc, ◌+◌, ◌<◌, List, [], ◌∷◌, ◌++◌, length, get_or, take, drop, All, ◌-◌, ◌≢◌, Fits, w8, rules, length-drop, arith, Some, refl, sym, ap, ◌∙◌, subst, inl, inr, ◌≤◌, append_assoc, append-nil, Option}
 use Rattle.std.specs.Io.KnownBytes.{Consumes, IsAtEnd}
 use Rattle.std.proofs.KnownBytes.{Consumes-trans}
 use Rattle.std.proofs.lemmas.List.{take_all}

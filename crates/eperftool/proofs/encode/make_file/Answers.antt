@@ -1,4 +1,4 @@
-use Rattle.std.proofs.Common.{ℕ, ◌*◌, ◌≤◌, length, arith}
+use Rattle.std.proofs.Common.{◌*◌, ◌≤◌, arith}
 use Rattle.eperftool.proofs.Headers.{limits_allow}
 use Rattle.eperftool.proofs.encode.make_file.Goals as goal
 

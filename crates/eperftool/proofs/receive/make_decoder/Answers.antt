@@ -1,5 +1,4 @@
-use Rattle.std.proofs.Common.{◌≡◌, ◌≤◌, ◌*◌, ℕ, arith}
-use Rattle.std.specs.Int.{div_ceil}
+use Rattle.std.proofs.Common.{◌≤◌, arith}
 use Rattle.parity_2d.specs.Grid.{size_2d}
 use Rattle.eperftool.proofs.Sizes.{ceil_most, size_smaller}
 use Rattle.eperftool.proofs.receive.make_decoder.Goals as goal

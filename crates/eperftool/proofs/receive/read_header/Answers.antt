@@ -1,4 +1,4 @@
-use Rattle.std.proofs.Common.{◌≡◌, ◌≤◌, ◌<◌, ◌++◌, ℕ, List, length, take, inl, inr, subst, length-take-le, arith, rules, Option, MatchOption, ◌∙◌}
+use Rattle.std.proofs.Common.{◌≡◌, ◌<◌, length, take, inl, inr, subst, length-take-le, arith, rules, Option, MatchOption}
 use Rattle.std.specs.Io.KnownBytes.{Consumes}
 use Rattle.std.proofs.lemmas.List.{take_all}
 use Rattle.eperftool.specs.File.{header}

@@ -1,4 +1,4 @@
-use Rattle.std.proofs.Common.{◌≡◌, ◌≤◌, ◌+◌, ℕ, [], ◌∷◌, ◌++◌, length, drop, length-drop, length-take-le, refl, sym, ap, ◌∙◌, true, false, Ok, Err, arith, rules, length-append}
+use Rattle.std.proofs.Common.{◌≡◌, ◌≤◌, [], ◌∷◌, ◌++◌, length, drop, length-drop, length-take-le, refl, ap, ◌∙◌, Ok, Err, arith, rules, length-append}
 use Rattle.std.proofs.KnownBytes.{Consumes-nil, Consumes-trans}
 use Rattle.eperftool.specs.Received.{spelled}
 use Rattle.eperftool.specs.declared.status.Status.TheVariants.{ReadFault, Unbuilt}

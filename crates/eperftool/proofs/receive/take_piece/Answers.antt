@@ -1,7 +1,7 @@
-use Rattle.std.proofs.Common.{◌≡◌, ◌≤◌, ◌<◌, ℕ, drop, subst, sym, Option, Some, arith, rules}
+use Rattle.std.proofs.Common.{◌<◌, drop, subst, sym, Option, Some, rules}
 use Rattle.peeling.specs.Decoder.{Decoder}
 use Rattle.eperftool.specs.Decoded.{IsFor, TakesPiece}
-use Rattle.eperftool.proofs.Receiving.{piece_in, piece_out, places_of, symbol_none}
+use Rattle.eperftool.proofs.Receiving.{piece_in}
 use Rattle.eperftool.proofs.receive.take_piece.Goals as goal
 
 pub returns-in-Some-clause-packet : goal.returns-in-Some-clause-packet
