@@ -9,7 +9,7 @@ EMPTY_RUN = encode --codec=2d --width=3 --block=5 --symbol=1
 help:
 	@sed -n 's/^#   make /make /p' $(firstword $(MAKEFILE_LIST))
 
-#   make demo               encodes README.md and shows the report, the packets and the source in them
+#   make demo               encodes README.md, loses some packets, and decodes it from the others
 demo:
 	@sh demo/run.sh
 

@@ -1,7 +1,7 @@
 #!/bin/sh
-# Shows the main job on a real file: the file, the command, the report, the packets, and that the
-# source symbols stand in the packets as they are. It runs build/eperftool where `make build` has
-# made it, and else the program unproved.
+# Shows the main job on a real file: encode it, lose some packets, and decode it from the others.
+# Then it loses too many. It runs build/eperftool where `make build` has made it, and else the program
+# unproved.
 set -eu
 cd "$(dirname "$0")/.."
 
@@ -31,44 +31,62 @@ bytes() { tail -c "+$(($2 + 1))" "$1" | head -c "$3"; }
 # The bytes of standard input in hexadecimal, on one line.
 hex() { od -An -v -tx1 | tr -d '\n' | sed 's/^ //'; }
 
+# run STATUS INPUT OUTPUT WORDS..: runs the program, which must end with the status. Shows the report.
+run() {
+    expected=$1 input=$2 output=$3
+    shift 3
+    echo "\$ eperftool $* < $(basename "$input") > $(basename "$output")"
+    status=0
+    program "$@" < "$input" > "$output" 2> "$here/report" || status=$?
+    if [ "$status" -ne "$expected" ]; then
+        cat "$here/report" >&2
+        echo "The program ended with status $status, and not with $expected." >&2
+        exit 1
+    fi
+    echo "Status $status. The report (standard error):"
+    grep -E '^(blocks [0-9]+|packets [0-9]+|block 0 [a-z]+)$' "$here/report" | sed 's/^/    /'
+}
+
+# without LOST..: the packet file without the packets of these numbers, counted from 0.
+without() {
+    bytes "$here/packets" 0 26
+    packet=0
+    while [ "$packet" -lt "$packets" ]; do
+        case " $* " in
+        *" $packet "*) ;;
+        *) bytes "$here/packets" $((26 + packet * (4 + symbol))) $((4 + symbol)) ;;
+        esac
+        packet=$((packet + 1))
+    done
+}
+
 length=$(($(wc -c < "$file")))
 sources=$(((length + symbol - 1) / symbol))
 
 echo
-echo "The file: $file, $length bytes, which are $sources source symbols of $symbol bytes."
+echo "The file: $file, $length bytes, which are $sources source symbols of $symbol bytes, in rows of $width."
 echo
-echo "\$ eperftool encode --codec=2d --width=$width --block=$block --symbol=$symbol < $file > packets"
-status=0
-program encode --codec=2d --width=$width --block=$block --symbol=$symbol \
-    < "$file" > "$here/packets" 2> "$here/report" || status=$?
-if [ "$status" -ne 0 ]; then
-    cat "$here/report" >&2
-    echo "The program ended with status $status." >&2
-    exit "$status"
-fi
-
-echo
-echo "The report (standard error):"
-grep -E '^(blocks|packets) [0-9]+$' "$here/report"
+run 0 "$file" "$here/packets" encode --codec=2d --width=$width --block=$block --symbol=$symbol
 packets=$(sed -n 's/^packets \([0-9]*\)$/\1/p' "$here/report")
 
 echo
 echo "The packet file: $(($(wc -c < "$here/packets"))) bytes, a header of 26 and $packets packets of $((4 + symbol))."
-echo "header  $(bytes "$here/packets" 0 26 | hex)"
-packet=0
-while [ "$packet" -lt 3 ]; do
+echo "header    $(bytes "$here/packets" 0 26 | hex)"
+for packet in 0 1; do
     start=$((26 + packet * (4 + symbol)))
-    echo "packet  $(bytes "$here/packets" $start 4 | hex) | $(bytes "$here/packets" $((start + 4)) 12 | hex) .."
-    packet=$((packet + 1))
+    echo "packet $packet  $(bytes "$here/packets" $start 4 | hex) | $(bytes "$here/packets" $((start + 4)) 12 | hex) .."
 done
 
 echo
-echo "The symbols of packets 0 to $((sources - 1)), one after the other, are the source symbols."
-packet=0
-while [ "$packet" -lt "$sources" ]; do
-    bytes "$here/packets" $((26 + packet * (4 + symbol) + 4)) "$symbol"
-    packet=$((packet + 1))
-done > "$here/symbols"
-head -c "$length" "$here/symbols" > "$here/again"
+echo "Packets 1, 6 and $sources are lost: two source symbols, and the sum of the grid's first row."
+without 1 6 "$sources" > "$here/some"
+run 0 "$here/some" "$here/again" decode
 cmp "$file" "$here/again"
-echo "Cut to $length bytes they are $file, byte for byte (cmp)."
+echo "The output is $file, byte for byte (cmp)."
+
+echo
+echo "Packets 0, 1, 4 and 5 are lost: each row and each column of the grid that lacks one lacks two."
+without 0 1 4 5 > "$here/few"
+run 12 "$here/few" "$here/nothing" decode
+cmp /dev/null "$here/nothing"
+echo "The output is empty: these packets are too few for peeling."
