@@ -9,7 +9,8 @@ use parity_2d::size_2d;
 /// The options of `encode --codec=2d --width=W --block=B --symbol=E`.
 #[derive(Clone, Copy, Debug, PartialEq, Eq)]
 pub struct EncodeOptions {
-    /// The width of the grid, from 1 to 65,536.
+    /// The width of the grid, from 1 to 65,536. A header that is received may have any from 1 to
+    /// 2^32 - 1.
     pub width: u32,
     /// The greatest number of source symbols of a source block, from 1 to 65,536.
     pub block: u32,

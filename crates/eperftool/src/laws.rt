@@ -13,8 +13,7 @@ pub fn one_encoding_for_each_object()
     ensures { EncodingIsOne }
 {}
 
-/// The bytes of a packet file have one reading: they are the file of one header and one list of
-/// packets.
+/// Bytes have at most one reading as a packet file: one header and one list of packets.
 pub fn one_reading_for_each_file()
     ensures { PacketFileIsOne }
 {}

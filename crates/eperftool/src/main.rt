@@ -1,7 +1,8 @@
-//! The program `eperftool`: words and an input in, a packet file and a report out. `run` is its top
-//! call, whose contract says what a user gets; `main` hands it the standard streams. It stands on
-//! `parity_2d` for the matrix of a block, on `fec_session` for its codeword, and on `fec_base` for
-//! the outside.
+//! The program `eperftool`: words and an input in, a packet file or its object and a report out.
+//! `run` is its top call, whose contract says what a user gets; `main` hands it the standard streams.
+//! It stands on `parity_2d` for the matrix of a block, on `fec_session` for its codeword and its
+//! decoder, on `peeling` and `sparse_rows` for the definitions that its contracts cite, and on
+//! `fec_base` for the outside.
 #![tactic(auto)]
 
 mod command;

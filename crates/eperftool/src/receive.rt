@@ -33,8 +33,8 @@ pub struct Received {
 }
 
 /// Receives the packet file that the input is. One packet is in memory at a time, beside the
-/// decoder. `Unbuilt` where the input is no packet file of one block of this codec: nothing is read
-/// behind the header or the packet that shows it.
+/// decoder. `Unbuilt` where the input is no packet file of this codec with at most one block:
+/// nothing is read behind the header or the packet that shows it.
 pub fn receive<S: Source>(alloc: Global, input: &mut S) -> Result<Received, Status>
     ensures received { IfOk result (λ r. (arrivals : List Arrival) × IsReceived (S.left input.old) (S.left input.new) r arrivals) }
     ensures early { IfErr result IsEarly }
