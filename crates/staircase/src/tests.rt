@@ -78,3 +78,13 @@ fn draws_nothing_where_all_symbols_are_source(rt: HostRuntime) -> Result<(), Fai
     assert_eq!(rt; built.code.entries(), 0);
     Ok(())
 }
+
+// A block of 20,000 source symbols: its 60,000 entries take hardly more draws than one each, so
+// choosing never goes far.
+#[test]
+fn builds_a_large_code_with_about_a_draw_an_entry(rt: HostRuntime) -> Result<(), Fail> {
+    let built = staircase(rt.alloc(), 20_000, 30_000, 3, 1, 66_000)?;
+    assert!(rt; built.draws >= 60_000);
+    assert!(rt; built.code.entries() >= 79_999);
+    Ok(())
+}
