@@ -32,4 +32,8 @@ install: build/eperftool
 	install -d $(DESTDIR)$(PREFIX)/bin
 	install -m 755 build/eperftool $(DESTDIR)$(PREFIX)/bin/eperftool
 
-.PHONY: help demo test build install
+#   make bench              times the built program
+bench: build/eperftool
+	@bench/run.sh
+
+.PHONY: help demo test build install bench
