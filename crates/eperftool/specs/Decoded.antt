@@ -20,10 +20,19 @@ pub record ReadsFile (left left_now : Option (List ℕ)) (o : EncodeOptions) (tr
   pub ended : IsAtEnd left_now
   pub file : IsPacketFile o transfer_length arrivals bytes
 
+-- at most a header's bytes were taken
+abbrev pub TakesHeader : Option (List ℕ) → Option (List ℕ) → Type 0
+TakesHeader left left_now = (bytes : List ℕ) × Consumes left left_now bytes × (length bytes ≤ 26)
+
 -- no packet file was read: the input ended there, or no packet file begins with these bytes
 abbrev pub ReadsNoFile : Option (List ℕ) → Option (List ℕ) → Type 0
 ReadsNoFile left left_now = (bytes : List ℕ) × Consumes left left_now bytes
     × ((IsAtEnd left_now × IsNoPacketFile bytes) ⊎ ((rest : List ℕ) → IsNoPacketFile (bytes ++ rest)))
+
+-- memory lacked before a byte behind the header was taken, or after the whole packet file was read
+abbrev pub LacksMemory : Option (List ℕ) → Option (List ℕ) → Type 0
+LacksMemory left left_now = TakesHeader left left_now
+    ⊎ ((o : EncodeOptions) × (transfer_length : ℕ) × (arrivals : List Arrival) × ReadsFile left left_now o transfer_length arrivals)
 
 -- what is reported of the object's block
 abbrev pub block_line : BlockOutcome → List ℕ

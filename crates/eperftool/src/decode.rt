@@ -6,7 +6,7 @@ ghost use Rattle.fec_base.specs.Causes.{HasCause, Rose};
 ghost use Rattle.eperftool.specs.Run.{IsCut, IsTold, Rebuilds, TakesSome};
 ghost use Rattle.eperftool.specs.Staged.{PassesOn};
 ghost use Rattle.eperftool.specs.Status.{fault_text, IsEarly};
-ghost use Rattle.eperftool.specs.Decoded.{block_line, decode_report, ComesOut, Decodes, HasAllSource, IsWhole, ReadsNoFile, kept_object, source_bytes};
+ghost use Rattle.eperftool.specs.Decoded.{block_line, decode_report, ComesOut, Decodes, HasAllSource, IsWhole, LacksMemory, ReadsNoFile, kept_object, source_bytes};
 
 use crate::{Received, STAGING_LEN, Staging, Status, conclude, receive, tell};
 use fec_base::{NoMemory, Sink, Source, WriteFailed};
@@ -58,6 +58,7 @@ pub fn decode<S: Source, K: Sink, R: Sink>(
     ensures stuck { result ≡ Status.Stuck → (text : List ℕ) × Decodes (S.left input.old) (S.left input.new) BlockOutcome.Stuck [] text
         × Keeps (K.held output.old) (K.held output.new) × IsTold text (R.held report.old) (R.held report.new) (R.faults report.old) (R.faults report.new) }
     ensures read { result ≡ Status.ReadFault → Rose (S.faults input.old) (S.faults input.new) }
+    ensures memory { result ≡ Status.Memory → LacksMemory (S.left input.old) (S.left input.new) }
     ensures unbuilt { result ≡ Status.Unbuilt → ReadsNoFile (S.left input.old) (S.left input.new) }
     ensures early { IsEarly result → Keeps (K.held output.old) (K.held output.new) × IsTold (fault_text result) (R.held report.old) (R.held report.new) (R.faults report.old) (R.faults report.new) }
     ensures taken { TakesSome (S.left input.old) (S.left input.new) }

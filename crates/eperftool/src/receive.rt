@@ -7,7 +7,7 @@ ghost use Rattle.eperftool.specs.Run.{TakesSome};
 ghost use Rattle.eperftool.specs.Status.{IsEarly};
 ghost use Rattle.eperftool.specs.File.{header, packet};
 ghost use Rattle.eperftool.specs.Received.{IsFileHeader, IsPacketOf};
-ghost use Rattle.eperftool.specs.Decoded.{IsFor, StandsForAll, IsReceived, ReadsNoFile, TakesNoPacket, TakesPackets, TakesPiece, ReadsNoPackets, ReadsPackets};
+ghost use Rattle.eperftool.specs.Decoded.{IsFor, StandsForAll, IsReceived, ReadsNoFile, TakesHeader, TakesNoPacket, TakesPackets, TakesPiece, ReadsNoPackets, ReadsPackets};
 
 use crate::{EncodeOptions, FileHeader, HEADER_LEN, Status, parse_header};
 use byteorder::{BigEndian, ByteOrder};
@@ -39,6 +39,7 @@ pub fn receive<S: Source>(alloc: Global, input: &mut S) -> Result<Received, Stat
     ensures received { IfOk result (λ r. (arrivals : List Arrival) × IsReceived (S.left input.old) (S.left input.new) r arrivals) }
     ensures early { IfErr result IsEarly }
     ensures read { result ≡ Err Status.ReadFault → Rose (S.faults input.old) (S.faults input.new) }
+    ensures memory { result ≡ Err Status.Memory → TakesHeader (S.left input.old) (S.left input.new) }
     ensures unbuilt { result ≡ Err Status.Unbuilt → ReadsNoFile (S.left input.old) (S.left input.new) }
     ensures taken { TakesSome (S.left input.old) (S.left input.new) }
 {
@@ -58,6 +59,7 @@ fn read_header<S: Source>(alloc: Global, input: &mut S) -> Result<FileHeader, St
     ensures bytes { IfOk result (λ h. Consumes (S.left input.old) (S.left input.new) (header h.options h.transfer_length)) }
     ensures early { IfErr result IsEarly }
     ensures read { result ≡ Err Status.ReadFault → Rose (S.faults input.old) (S.faults input.new) }
+    ensures memory { result ≡ Err Status.Memory → TakesHeader (S.left input.old) (S.left input.new) }
     ensures unbuilt { result ≡ Err Status.Unbuilt → ReadsNoFile (S.left input.old) (S.left input.new) }
     ensures taken { OnErr result (TakesSome (S.left input.old) (S.left input.new)) }
     ensures later { S.faults input.old ≤ S.faults input.new }
@@ -109,6 +111,7 @@ fn receive_packets<S: Source>(
     ensures packets { IfOk result (λ count. (arrivals : List Arrival) × ReadsPackets (S.left input.old) (S.left input.new) header.now.options header.now.transfer_length decoder.old decoder.new count arrivals) }
     ensures early { IfErr result IsEarly }
     ensures read { result ≡ Err Status.ReadFault → Rose (S.faults input.old) (S.faults input.new) }
+    ensures memory { result ≡ Err Status.Memory → Consumes (S.left input.old) (S.left input.new) [] }
     ensures unbuilt { result ≡ Err Status.Unbuilt → ReadsNoPackets (S.left input.old) (S.left input.new) header.now.options header.now.transfer_length }
     ensures taken { OnErr result (TakesSome (S.left input.old) (S.left input.new)) }
 {
@@ -141,6 +144,7 @@ fn take_packet<S: Source>(
     ensures end { result ≡ Ok false → Consumes (S.left input.old) (S.left input.new) [] × IsAtEnd (S.left input.new) × (decoder.new ≡ decoder.old) }
     ensures early { IfErr result IsEarly }
     ensures read { result ≡ Err Status.ReadFault → Rose (S.faults input.old) (S.faults input.new) }
+    ensures memory { result ≢ Err Status.Memory }
     ensures unbuilt { result ≡ Err Status.Unbuilt → TakesNoPacket (S.left input.old) (S.left input.new) header.now.options header.now.transfer_length }
     ensures taken { OnErr result (TakesSome (S.left input.old) (S.left input.new)) }
     ensures kept { IsFor header.now.options header.now.transfer_length decoder.new }

@@ -3,7 +3,7 @@ ghost use Rattle.std.specs.Prelude.{◌≡◌, ◌≢◌, ◌⊎◌, ℕ, List, 
 ghost use Rattle.std.specs.Io.KnownBytes.{Appends, Keeps};
 ghost use Rattle.fec_base.specs.Causes.{Rose};
 ghost use Rattle.eperftool.specs.Command.{Means, IsInLimits, decode_words};
-ghost use Rattle.eperftool.specs.Decoded.{Decodes};
+ghost use Rattle.eperftool.specs.Decoded.{Decodes, LacksMemory};
 ghost use Rattle.eperftool.specs.Made.{IsReady, made_file};
 ghost use Rattle.eperftool.specs.Run.{EncodesBy, GoesOn, Makes, IsCut, IsUnbuilt, IsTold, TakesSome};
 ghost use Rattle.eperftool.specs.Status.{fault_text, IsEarly};
@@ -50,6 +50,9 @@ pub fn run<S: Source, K: Sink, R: Sink>(
     ensures stuck { result.status ≡ Status.Stuck → (words.now ≡ decode_words) × (text : List ℕ) × Decodes (S.left input.old) (S.left input.new) BlockOutcome.Stuck [] text
         × Keeps (K.held output.old) (K.held output.new) × IsTold text (R.held report.old) (R.held report.new) (R.faults report.old) (R.faults report.new) }
 
+    // Memory: a decode asks for none while packets come.
+    ensures memory { result.status ≡ Status.Memory → words.now ≡ decode_words → LacksMemory (S.left input.old) (S.left input.new) }
+
     // ReadFault: only where the input's count rose.
     ensures read { result.status ≡ Status.ReadFault → Rose (S.faults input.old) (S.faults input.new) }
 
@@ -81,6 +84,7 @@ fn run_words<S: Source, K: Sink, R: Sink>(
         × Keeps (K.held output.old) (K.held output.new) × IsTold text (R.held report.old) (R.held report.new) (R.faults report.old) (R.faults report.new) }
     ensures stuck { result ≡ Status.Stuck → (words.now ≡ decode_words) × (text : List ℕ) × Decodes (S.left input.old) (S.left input.new) BlockOutcome.Stuck [] text
         × Keeps (K.held output.old) (K.held output.new) × IsTold text (R.held report.old) (R.held report.new) (R.faults report.old) (R.faults report.new) }
+    ensures memory { result ≡ Status.Memory → words.now ≡ decode_words → LacksMemory (S.left input.old) (S.left input.new) }
     ensures read { result ≡ Status.ReadFault → Rose (S.faults input.old) (S.faults input.new) }
     ensures unbuilt { result ≡ Status.Unbuilt → IsUnbuilt words.now (S.left input.old) (S.left input.new) }
     ensures unasked { ((c : Command) → ¬ Means words.now c) → (result ≡ Status.Unbuilt) × (input.new ≡ input.old) × (output.new ≡ output.old) }

@@ -24,3 +24,9 @@ returns-in-Ok-None-clause-unbuilt g c is =
     let whole : take c.in-Ok-eq26.field-0 bytes ≡ bytes = take_all c.in-Ok-eq26.field-0 bytes (omega (arith, c.in-Ok-eq26.field-0-test, long)) in
     let none : SpellsNoHeader bytes = subst (λ (found : Option FileHeader). MatchOption found (SpellsNoHeader bytes) (λ h. IsFileHeader h.options h.transfer_length × (bytes ≡ header h.options h.transfer_length))) c.in-Ok-None.field-0-is c.in-Ok-None.ensures in
     (bytes, subst (Consumes (left c.args.input.now) (left c.read_full.new.src)) whole c.in-Ok-eq26.ensures.bytes, inr (λ rest. no_file_header bytes rest long none))
+
+pub returns-in-Err-parse_header-clause-memory : goal.returns-in-Err-parse_header-clause-memory
+returns-in-Err-parse_header-clause-memory g c is =
+    let bytes = c.read_full.new.buf in
+    let taken = c.in-Ok-eq26.field-0 in
+    (take taken bytes, c.in-Ok-eq26.ensures.bytes, omega (arith, length-take-le taken bytes c.in-Ok-eq26.ensures.bound, c.in-Ok-eq26.field-0-test))

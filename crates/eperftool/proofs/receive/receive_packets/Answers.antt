@@ -1,7 +1,7 @@
 use Rattle.std.proofs.Common.{◌≡◌, ◌≤◌, [], ◌∷◌, ◌++◌, length, drop, length-drop, length-take-le, refl, ap, ◌∙◌, Ok, Err, arith, rules, length-append}
 use Rattle.std.proofs.KnownBytes.{Consumes-nil, Consumes-trans}
 use Rattle.eperftool.specs.Received.{spelled}
-use Rattle.eperftool.specs.declared.status.Status.TheVariants.{ReadFault, Unbuilt}
+use Rattle.eperftool.specs.declared.status.Status.TheVariants.{Memory, ReadFault, Unbuilt}
 use Rattle.eperftool.proofs.Receiving.{took_none, took_more, took_end, took_no_more, took_too_many}
 use Rattle.eperftool.proofs.receive.receive_packets.Goals as goal
 
@@ -85,3 +85,8 @@ returns-clause-unbuilt g c is =
 
 pub returns-clause-taken : goal.returns-clause-taken
 returns-clause-taken g c = let came = c.loop-packets.invariant.came in (spelled came.0, came.1.taken)
+
+pub returns-in-Err-take_packet-clause-memory : goal.returns-in-Err-take_packet-clause-memory
+returns-in-Err-take_packet-clause-memory g c is =
+    let first = c.in-Err-take_packet.is in
+    let same : c.take_packet.result ≡ Err Memory = cc in absurd (c.take_packet.ensures.memory same)
