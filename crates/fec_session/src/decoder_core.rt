@@ -1,6 +1,6 @@
 // The decoder of one source block.
 ghost use Rattle.std.specs.Prelude.{◌≡◌, ◌↔◌, ◌<◌, ◌≤◌, ℕ, true, [], IsTrue, IsSome, IfSome, IfOk, IfErr, length, count_by};
-ghost use Rattle.peeling.specs.Decoder.{flagged, kept, IsDecoder, IsEmpty};
+ghost use Rattle.peeling.specs.Decoder.{flagged, kept, HasAllSource, IsDecoder, IsEmpty};
 ghost use Rattle.peeling.specs.Stands.{StandsFor, Receives};
 ghost use Rattle.peeling.specs.Outcome.{IsOutcome};
 
@@ -97,7 +97,7 @@ impl Core {
 
     /// Whether each of the k source symbols is known.
     pub fn has_all_source(&self) -> bool
-        ensures { IsTrue result ↔ ((position : ℕ) → position < self.now.matrix.k → flagged self.now.known position ≡ true) }
+        ensures { IsTrue result ↔ HasAllSource self.now }
     {
         self.peeler.has_all_source()
     }

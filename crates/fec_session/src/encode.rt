@@ -73,7 +73,8 @@ fn fill_repair<L: Ledger>(code: &Code, len: usize, bytes: &mut [u8], steps: &mut
     requires most { len ≤ 65535 }
     requires room { length bytes.old ≡ code.now.n * len }
     requires zero { drop (code.now.k * len) bytes.old ≡ replicate ((code.now.n - code.now.k) * len) 0 }
-    ensures { IsEncoded code.now len (symbols_of len code.now.k bytes.old) (symbols_of len code.now.n bytes.new) }
+    ensures { IsEncoded code.now len
+        (symbols_of len code.now.k bytes.old) (symbols_of len code.now.n bytes.new) }
 {
     let k = code.k();
     for r in 0..code.n() - k {
@@ -95,7 +96,8 @@ fn add_row<L: Ledger>(
     requires row { r < code.now.n - code.now.k }
     requires known { length known.now ≡ (code.now.k + r) * len }
     requires zero { sum.old ≡ zero_symbol len }
-    ensures { sum.new ≡ xor_sum len (symbol_at len (symbols_of len (code.now.k + r) known.now)) (row_of code.now r) }
+    ensures { sum.new
+        ≡ xor_sum len (symbol_at len (symbols_of len (code.now.k + r) known.now)) (row_of code.now r) }
 {
     // The last column of the row is that of the repair symbol itself.
     for i in 0..code.row_len(r) - 1 {

@@ -69,6 +69,18 @@ impl Code {
         })
     }
 
+    /// Another code with the same matrix. `NoMemory` leaves this one as it is.
+    pub fn copy(&self, alloc: Global) -> Result<Code, NoMemory>
+        ensures { IfOk result (λ code. code ≡ self.now) }
+    {
+        Ok(Code {
+            k: self.k,
+            n: self.n,
+            starts: Vec::from_slice(alloc, &self.starts)?,
+            columns: Vec::from_slice(alloc, &self.columns)?,
+        })
+    }
+
     /// The number of source symbols, at least 1.
     pub fn k(&self) -> u32
         ensures value { result ≡ self.now.k }
