@@ -1,7 +1,7 @@
 // The right side of the staircase, and the code.
 ghost use Rattle.std.specs.Prelude.{◌≡◌, ◌<◌, ◌≤◌, ◌+◌, ◌-◌, length, Some, None, Err, All, IfOk, OnOk};
 ghost use Rattle.staircase.specs.LeftSide.{IsLeftSide};
-ghost use Rattle.sparse_rows.specs.Matrix.{row_of};
+ghost use Rattle.sparse_rows.specs.Matrix.{HasShape, row_of};
 ghost use Rattle.staircase.specs.Staircase.{with_stair, with_stairs, staircase_matrix};
 
 use crate::left_side::left;
@@ -38,6 +38,8 @@ pub fn staircase(
     requires seed { seed ≤ MAX_SEED }
     ensures ok { IfOk result (λ built. staircase_matrix k n n1 seed limit ≡ Some (record { matrix = built.code; draws = built.draws })) }
     ensures draw_limit { result ≡ Err BuildRefusal.DrawLimit → staircase_matrix k n n1 seed limit ≡ None }
+    ensures source { IfOk result (λ built. built.code.k ≡ k) }
+    ensures symbols { IfOk result (λ built. built.code.n ≡ n) }
 {
     let mut g = Draws::new(ParkMiller::new(seed).unwrap(), limit);
     let mut rows = left(alloc, k, n, n1, &mut g)?;
@@ -49,11 +51,13 @@ pub fn staircase(
     })
 }
 
-// Puts the repair symbols into the rows.
-fn add_stairs(rows: &mut RowsBuilder, k: u32, count: u32) -> Result<(), NoMemory>
+/// Puts the staircase behind a left side of `count` rows: each row's own repair symbol, behind that
+/// of the row before. After `NoMemory` some rows have theirs.
+pub fn add_stairs(rows: &mut RowsBuilder, k: u32, count: u32) -> Result<(), NoMemory>
     requires left { IsLeftSide k (k + count) rows.old }
     requires most { k + count ≤ 65536 }
-    ensures { OnOk result (rows.new ≡ with_stairs rows.old) }
+    ensures stairs { OnOk result (rows.new ≡ with_stairs rows.old) }
+    ensures shape { OnOk result (HasShape rows.new) }
 {
     for r in 0..count {
         add_stair(rows, k, r)?;

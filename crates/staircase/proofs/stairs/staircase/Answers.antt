@@ -1,7 +1,7 @@
-use Rattle.std.proofs.Common.{◌≡◌, sym, ap₂, ◌∙◌, subst, Some, ℕ}
+use Rattle.std.proofs.Common.{◌≡◌, sym, ap₂, ◌∙◌, Some, ℕ}
 use Rattle.std.proofs.lemmas.Result.{err_from_is_err_and, IfOk-at_ok}
-use Rattle.sparse_rows.specs.Matrix.{HasShape, Matrix}
-use Rattle.staircase.proofs.RightSide.{staircase_over, staircase_is, stairs_have_shape}
+use Rattle.sparse_rows.specs.Matrix.{Matrix}
+use Rattle.staircase.proofs.RightSide.{staircase_over, staircase_is}
 use Rattle.staircase.proofs.stairs.staircase.Goals as goal
 
 pub returns-in_err-rows-clause-draw_limit : goal.returns-in_err-rows-clause-draw_limit
@@ -11,10 +11,10 @@ returns-in_err-rows-clause-draw_limit c limit =
     staircase_over c.args.k c.args.n c.args.n1 c.args.seed c.args.limit c.new-g.result (c.new-g.ensures.state ∙ seed) c.new-g.ensures.used c.new-g.ensures.limit (c.in_err-rows.ensures.draw_limit (cc (p.1, p.2, limit)))
 
 pub from_builder-requires : goal.from_builder-requires
-from_builder-requires c = subst HasShape (sym c.in_ok-add_stairs.ensures) (stairs_have_shape c.args.k c.args.n c.in_ok-rows.rows c.in_ok-rows.ensures.sources)
+from_builder-requires c = c.in_ok-add_stairs.ensures.shape
 
 pub returns-clause-ok : goal.returns-clause-ok
 returns-clause-ok c =
     let seed : c.unwrap.result ≡ c.args.seed = IfOk-at_ok (λ (generator : ℕ). generator ≡ c.args.seed) c.unwrap.ensures c.new.ensures.state in
     staircase_is c.args.k c.args.n c.args.n1 c.args.seed c.args.limit c.new-g.result (c.new-g.ensures.state ∙ seed) c.new-g.ensures.used c.new-g.ensures.limit c.in_ok-rows.rows c.left.new.g c.in_ok-rows.ensures.ok
-    ∙ ap₂ (λ (matrix : Matrix) draws. Some (record { matrix = matrix; draws = draws })) (sym (c.in_ok-code.ensures ∙ c.in_ok-add_stairs.ensures)) (sym c.used.ensures.value)
+    ∙ ap₂ (λ (matrix : Matrix) draws. Some (record { matrix = matrix; draws = draws })) (sym (c.in_ok-code.ensures ∙ c.in_ok-add_stairs.ensures.stairs)) (sym c.used.ensures.value)

@@ -1,0 +1,4 @@
+pub mod Links
+pub mod Shape
+pub mod Chained
+pub mod Rows
