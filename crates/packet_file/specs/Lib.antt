@@ -1,0 +1,5 @@
+pub mod Header
+pub mod Packets
+pub mod Faults
+pub mod Reading
+pub mod Laws

@@ -1,0 +1,46 @@
+// What may be wrong with a packet file.
+use oti_fields::FieldFault;
+
+/// A size of a file that is limited.
+#[derive(Clone, Copy, Debug, PartialEq, Eq)]
+pub enum Limit {
+    /// The transfer length: at most 268,435,456 bytes.
+    Length,
+    /// The encoding symbols of one block: at most 268,435,456 bytes.
+    BlockBytes,
+    /// The encoding symbols of all blocks: at most 4,194,304.
+    AllSymbols,
+    /// The encoding symbols of all blocks: at most 536,870,912 bytes.
+    AllBytes,
+}
+
+/// The first fault of a packet file. The numbers are those that were found.
+#[derive(Clone, Copy, Debug, PartialEq, Eq)]
+pub enum FileFault {
+    /// The input ended within the header.
+    ShortHeader { have: u32 },
+    /// The first four bytes aren't `OFPK`.
+    BadMagic,
+    /// The version isn't 1.
+    BadVersion(u8),
+    /// No codec has the number.
+    BadCodec(u8),
+    /// A reserved byte isn't 0.
+    BadReserved,
+    /// A field of the transmission information has a fault.
+    Field(FieldFault),
+    /// The input ended within a packet.
+    ShortPacket { index: u64, have: u32 },
+    /// A packet is of a block that the file doesn't have.
+    NoSuchBlock { index: u64, sbn: u32 },
+    /// A packet is of an encoding symbol that its block doesn't have.
+    NoSuchSymbol { index: u64, esi: u32 },
+    /// A size passes its limit.
+    TooLarge(Limit),
+    /// There are more than 4,096 blocks.
+    TooManyBlocks,
+    /// There are more packets than may be read.
+    TooManyPackets,
+    /// The input failed.
+    ReadFault,
+}
