@@ -1,0 +1,8 @@
+pub mod Numbers
+pub mod Items
+pub mod Options
+pub mod Given
+pub mod Commands
+pub mod Reading
+pub mod Status
+pub mod BlockCode

@@ -1,0 +1,32 @@
+-- The statuses of the program: their numbers and their texts.
+use Rattle.std.specs.Prelude.{ℕ, List, [], codes}
+use Rattle.tool_base.specs.declared.status.Status.{Status}
+use Rattle.tool_base.specs.declared.status.Status.TheVariants.{Done, Memory, Usage, ReadFault, WriteFault, Malformed, Draws, Limit, NoCodeword, Unbuilt, Stuck}
+
+-- the exit status
+abbrev pub code_of : Status → ℕ
+code_of Done = 0
+code_of Memory = 1
+code_of Usage = 2
+code_of ReadFault = 3
+code_of WriteFault = 4
+code_of Malformed = 5
+code_of Draws = 6
+code_of Limit = 7
+code_of NoCodeword = 9
+code_of Unbuilt = 11
+code_of Stuck = 12
+
+-- the report of a status that goes by nothing else
+abbrev pub fault_text : Status → List ℕ
+fault_text Done = []
+fault_text Memory = codes "fault: memory\n"
+fault_text Usage = codes "fault: usage\nusage: eperftool encode|decode|lose|show|perf [--name=value ...]\n"
+fault_text ReadFault = codes "fault: read\n"
+fault_text WriteFault = codes "fault: write\n"
+fault_text Malformed = []
+fault_text Draws = []
+fault_text Limit = []
+fault_text NoCodeword = []
+fault_text Unbuilt = codes "fault: unbuilt\n"
+fault_text Stuck = []

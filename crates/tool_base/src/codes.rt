@@ -1,0 +1,69 @@
+// The code of a source block of a file.
+ghost use Rattle.std.specs.Prelude.{◌≡◌, ◌≤◌, ◌<◌, length, slice_index, Some, None, IfOk};
+ghost use Rattle.packet_file.specs.Header.{source_counts};
+ghost use Rattle.packet_file.specs.Packets.{block_symbols};
+ghost use Rattle.tool_base.specs.BlockCode.{block_matrix, limit_by, seed_field};
+
+use crate::Shape;
+use oti_fields::Codec;
+use packet_file::Header;
+use parity_2d::parity_2d;
+use staircase::{BuildRefusal, Built, staircase};
+use std::alloc::Global;
+use triangle::triangle;
+
+/// The code of block i of a file, and how many draws its matrix took, 0 for a grid. The draws may be
+/// as many as are given, or else 64 for each of the N1*k + 2*(n - k) entries of the block and 65,536
+/// more. `DrawLimit` comes exactly where the matrix takes more.
+pub fn block_code(
+    alloc: Global,
+    h: &Header,
+    i: u32,
+    draws: Option<u32>,
+) -> Result<Built, BuildRefusal>
+    requires { i < length (source_counts h.now) }
+    ensures ok { IfOk result (λ built. block_matrix h.now draws (slice_index (source_counts h.now) i) ≡ Some (record { matrix = built.code; draws = built.draws })) }
+    ensures draw_limit { result ≡ Err BuildRefusal.DrawLimit → block_matrix h.now draws (slice_index (source_counts h.now) i) ≡ None }
+    ensures source { IfOk result (λ built. built.code.k ≡ slice_index (source_counts h.now) i) }
+    ensures symbols { IfOk result (λ built. built.code.n ≡ block_symbols h.now i) }
+{
+    let k = h.source_count(i);
+    let n = h.symbol_count(i);
+    let oti = h.oti();
+    let n1 = oti.n1m3 as u32 + 3;
+    let limit = limit_of(draws, n1, k, n);
+    match h.codec() {
+        Codec::Staircase => staircase(alloc, k, n, n1, oti.seed, limit),
+        Codec::Triangle => triangle(alloc, k, n, n1, oti.seed, limit),
+        Codec::Parity2d => Ok(Built {
+            code: parity_2d(alloc, k, oti.seed)?,
+            draws: 0,
+        }),
+    }
+}
+
+impl Shape {
+    /// What the header of a file of this code has in its last field: the seed of the generator, or
+    /// the width of the grid.
+    pub fn seed_field(&self) -> u32
+        ensures { result ≡ seed_field self.now }
+    {
+        match self.codec {
+            Codec::Staircase | Codec::Triangle => self.seed,
+            Codec::Parity2d => self.width,
+        }
+    }
+}
+
+// How many draws a matrix may take.
+fn limit_of(draws: Option<u32>, n1: u32, k: u32, n: u32) -> u64
+    requires within { k ≤ n }
+    requires most { n ≤ 65536 }
+    requires greatest { n1 ≤ 10 }
+    ensures { result ≡ limit_by draws n1 k n }
+{
+    match draws {
+        Some(draws) => draws as u64,
+        None => 64 * (n1 as u64 * k as u64 + 2 * (n - k) as u64) + 65_536,
+    }
+}

@@ -1,0 +1,60 @@
+// How a run ends.
+ghost use Rattle.std.specs.Prelude.{◌≡◌};
+ghost use Rattle.tool_base.specs.Status.{code_of, fault_text};
+
+/// How a run ends. The numbers are the exit statuses of the program.
+#[derive(Clone, Copy, Debug, PartialEq, Eq)]
+pub enum Status {
+    /// The output and the report are whole.
+    Done = 0,
+    /// There was no memory.
+    Memory = 1,
+    /// The words are no command with its options.
+    Usage = 2,
+    /// The input failed.
+    ReadFault = 3,
+    /// The output or the report failed.
+    WriteFault = 4,
+    /// The header or a packet of the input is malformed.
+    Malformed = 5,
+    /// The code of a block takes more draws than the limit allows.
+    Draws = 6,
+    /// A size or a count passes its limit.
+    Limit = 7,
+    /// No codeword fits the packets: they contradict one another.
+    NoCodeword = 9,
+    /// The words or the input ask for something that isn't built yet.
+    Unbuilt = 11,
+    /// Peeling leaves a source symbol open.
+    Stuck = 12,
+}
+
+impl Status {
+    /// The exit status.
+    pub fn code(self) -> u8
+        ensures { result ≡ code_of self }
+    {
+        self as u8
+    }
+
+    /// The report of a status, and nothing for those whose report goes by the input.
+    pub fn fault_text(self) -> &'static str
+        ensures { result.now ≡ fault_text self }
+    {
+        match self {
+            Status::Memory => "fault: memory\n",
+            Status::Usage => {
+                "fault: usage\nusage: eperftool encode|decode|lose|show|perf [--name=value ...]\n"
+            }
+            Status::ReadFault => "fault: read\n",
+            Status::WriteFault => "fault: write\n",
+            Status::Unbuilt => "fault: unbuilt\n",
+            Status::Done
+            | Status::Malformed
+            | Status::Draws
+            | Status::Limit
+            | Status::NoCodeword
+            | Status::Stuck => "",
+        }
+    }
+}

@@ -1,0 +1,262 @@
+use super::*;
+use fec_base::{MemSink, NoMemory, Words, WriteFailed};
+use oti_fields::Codec;
+use std::alloc::Global;
+use std::process::Abort;
+use std::test::Fail;
+
+// What the words ask for.
+fn read(alloc: Global, words: &[&str]) -> Result<Option<Command>, NoMemory> {
+    let mut list = Words::new(alloc);
+    for word in words {
+        list.push(*word)?;
+    }
+    read_words(alloc, &list)
+}
+
+// All of these words are usage.
+fn check_usage(rt: &impl Abort, alloc: Global, cases: &[&[&str]]) -> Result<(), Fail> {
+    for words in cases {
+        assert_eq!(rt; read(alloc, *words)?, None);
+    }
+    Ok(())
+}
+
+const STAIRCASE: Shape = Shape {
+    codec: Codec::Staircase,
+    n1: 3,
+    seed: 1,
+    width: 10,
+    draws: None,
+};
+
+// An `encode` whose options that aren't named here have their defaults.
+const fn encode(shape: Shape, block: u32, max_n: u32) -> Option<Command> {
+    Some(Command::Encode {
+        shape,
+        symbol: 1024,
+        block,
+        max_n,
+    })
+}
+
+#[test]
+fn encode_has_defaults(rt: HostRuntime) -> Result<(), Fail> {
+    let wanted = encode(STAIRCASE, 1000, 1500);
+    assert_eq!(rt; read(rt.alloc(), &["encode"])?, wanted);
+    Ok(())
+}
+
+#[test]
+fn decode_has_defaults(rt: HostRuntime) -> Result<(), Fail> {
+    let wanted = Command::Decode {
+        draws: None,
+        early: false,
+        packets: 16_777_216,
+    };
+    assert_eq!(rt; read(rt.alloc(), &["decode"])?, Some(wanted));
+    Ok(())
+}
+
+#[test]
+fn each_option_is_read(rt: HostRuntime) -> Result<(), Fail> {
+    let words = [
+        "encode",
+        "--codec=triangle",
+        "--symbol=65535",
+        "--n1=10",
+        "--seed=2147483646",
+        "--block=1",
+        "--max-n=65536",
+        "--draws=4294967295",
+    ];
+    let shape = Shape {
+        codec: Codec::Triangle,
+        n1: 10,
+        seed: 2_147_483_646,
+        width: 10,
+        draws: Some(u32::MAX),
+    };
+    let wanted = Command::Encode {
+        shape,
+        symbol: 65_535,
+        block: 1,
+        max_n: 65_536,
+    };
+    assert_eq!(rt; read(rt.alloc(), words.as_slice())?, Some(wanted));
+    Ok(())
+}
+
+#[test]
+fn items_in_two_words_are_those_in_one(rt: HostRuntime) -> Result<(), Fail> {
+    let wanted = Command::Decode {
+        draws: Some(0),
+        early: true,
+        packets: 0,
+    };
+    let joined = ["decode", "--early=yes", "--draws=0", "--packets=0"];
+    let apart = ["decode", "--packets", "0", "--early", "yes", "--draws", "0"];
+    assert_eq!(rt; read(rt.alloc(), joined.as_slice())?, Some(wanted));
+    assert_eq!(rt; read(rt.alloc(), apart.as_slice())?, Some(wanted));
+    Ok(())
+}
+
+#[test]
+fn half_as_many_again_by_default_and_at_most_65536(rt: HostRuntime) -> Result<(), Fail> {
+    let alloc = rt.alloc();
+    let cases = [
+        ("--block=1", 1, 1),
+        ("--block=3", 3, 4),
+        ("--block=43690", 43_690, 65_535),
+        ("--block=65536", 65_536, 65_536),
+    ];
+    for (word, block, max_n) in cases {
+        assert_eq!(rt;
+            read(alloc, &["encode", word])?,
+            encode(STAIRCASE, block, max_n)
+        );
+    }
+    Ok(())
+}
+
+#[test]
+fn a_grid_has_the_size_of_its_width_and_block(rt: HostRuntime) -> Result<(), Fail> {
+    let words = [
+        "encode",
+        "--codec=2d",
+        "--width=3",
+        "--block=5",
+        "--symbol=1",
+    ];
+    let wanted = Command::Encode {
+        shape: Shape {
+            codec: Codec::Parity2d,
+            width: 3,
+            ..STAIRCASE
+        },
+        symbol: 1,
+        block: 5,
+        max_n: 10,
+    };
+    assert_eq!(rt; read(rt.alloc(), words.as_slice())?, Some(wanted));
+    check_usage(
+        &rt,
+        rt.alloc(),
+        &[&["encode", "--codec=2d", "--block=65536"]],
+    )
+}
+
+#[test]
+fn words_that_are_no_command_are_usage(rt: HostRuntime) -> Result<(), Fail> {
+    check_usage(
+        &rt,
+        rt.alloc(),
+        &[
+            &[],
+            &["pack"],
+            &["--help"],
+            &["--"],
+            &["decode", "--"],
+            &["decode", "--early", "--"],
+            &["decode", "x"],
+            &["decode", "-x"],
+            &["decode", "help"],
+            &["decode", "--help"],
+            &["decode", "--version"],
+            &["decode", "--early"],
+        ],
+    )
+}
+
+#[test]
+fn options_that_are_not_the_commands_are_usage(rt: HostRuntime) -> Result<(), Fail> {
+    check_usage(
+        &rt,
+        rt.alloc(),
+        &[
+            &["encode", "--sym=1"],
+            &["encode", "--early=yes"],
+            &["encode", "--seed=1", "--seed=1"],
+            &["encode", "--seed=1", "--seed", "1"],
+            &["encode", "--width=3"],
+            &["encode", "--codec=2d", "--n1=3"],
+            &["encode", "--codec=2d", "--max-n=10"],
+        ],
+    )
+}
+
+#[test]
+fn values_out_of_their_ranges_are_usage(rt: HostRuntime) -> Result<(), Fail> {
+    check_usage(
+        &rt,
+        rt.alloc(),
+        &[
+            &["encode", "--symbol=0"],
+            &["encode", "--symbol=65536"],
+            &["encode", "--max-n=2", "--block=3"],
+            &["decode", "--packets=16777217"],
+            &["decode", "--draws=4294967296"],
+            &["decode", "--early=no "],
+            &["decode", "--early="],
+            &["decode", "--early", ""],
+            &["decode", "--early", "--packets=3"],
+        ],
+    )
+}
+
+#[test]
+fn numbers_in_other_spellings_are_usage(rt: HostRuntime) -> Result<(), Fail> {
+    check_usage(
+        &rt,
+        rt.alloc(),
+        &[
+            &["encode", "--symbol=08"],
+            &["encode", "--symbol=+1"],
+            &["encode", "--symbol=-1"],
+            &["encode", "--symbol", "-1"],
+            &["encode", "--symbol=1_000"],
+            &["encode", "--symbol=٣"],
+            &["encode", "--symbol= 1"],
+            &["encode", "--symbol=1=1"],
+            &["encode", "--symbol=99999999999999999999999999"],
+        ],
+    )
+}
+
+#[test]
+fn texts_and_numbers_go_behind_one_another(rt: HostRuntime) -> Result<(), Fail> {
+    let mut sink = MemSink::new(rt.alloc(), 30, 4)?;
+    assert_eq!(rt; put_text(&mut sink, "blocks "), Ok(()));
+    assert_eq!(rt; put_number(&mut sink, 0), Ok(()));
+    assert_eq!(rt; put_text(&mut sink, "\n"), Ok(()));
+    assert_eq!(rt; put_number(&mut sink, u64::MAX), Ok(()));
+    assert_eq!(rt; sink.bytes(), b"blocks 0\n18446744073709551615".as_slice());
+    assert_eq!(rt; put_number(&mut sink, 123), Err(WriteFailed));
+    assert_eq!(rt; sink.bytes(), b"blocks 0\n184467440737095516151".as_slice());
+    Ok(())
+}
+
+#[test]
+fn statuses_have_their_numbers_and_texts(rt: HostRuntime) {
+    let cases = [
+        (Status::Done, 0, ""),
+        (Status::Memory, 1, "fault: memory\n"),
+        (
+            Status::Usage,
+            2,
+            "fault: usage\nusage: eperftool encode|decode|lose|show|perf [--name=value ...]\n",
+        ),
+        (Status::ReadFault, 3, "fault: read\n"),
+        (Status::WriteFault, 4, "fault: write\n"),
+        (Status::Malformed, 5, ""),
+        (Status::Draws, 6, ""),
+        (Status::Limit, 7, ""),
+        (Status::NoCodeword, 9, ""),
+        (Status::Unbuilt, 11, "fault: unbuilt\n"),
+        (Status::Stuck, 12, ""),
+    ];
+    for (status, code, text) in cases {
+        assert_eq!(rt; status.code(), code);
+        assert_eq!(rt; status.fault_text(), text);
+    }
+}
