@@ -1,146 +1,162 @@
 -- What a `decode` does.
-use Rattle.std.specs.Prelude.{◌≡◌, ◌≢◌, ◌≤◌, ◌<◌, ℕ, ◌+◌, ◌⊎◌, List, [], ◌∷◌, ◌++◌, length, take, All, Option, None, Some, true, false, ⊤, codes}
+use Rattle.std.specs.Prelude.{◌≡◌, ◌≤◌, ◌<◌, ℕ, ◌⊎◌, Bool, true, false, List, [], ◌++◌, length, take, slice_index_or, All, Option, Some, if◌then◌else◌, codes}
 use Rattle.std.specs.Fmt.{decimal}
-use Rattle.std.specs.List.{flat_map, range_with_len}
+use Rattle.std.specs.List.{flat_map, enumerate_from, list_any, range_with_len}
 use Rattle.std.specs.Io.KnownBytes.{Consumes, IsAtEnd}
+use Rattle.sparse_rows.specs.Matrix.{Matrix, IsCode}
 use Rattle.sparse_rows.specs.Codeword.{Arrival}
-use Rattle.peeling.specs.Decoder.{Decoder, flagged, kept}
+use Rattle.peeling.specs.Decoder.{Decoder, HasAllSource, kept}
 use Rattle.peeling.specs.Stands.{StandsFor}
-use Rattle.eperftool.specs.File.{header, packet}
-use Rattle.eperftool.specs.Received.{IsPacketFile, IsPacketOf, IsNoPacketFile, spelled, IsPeeled, IsStuck, IsContradicted, file_matrix}
-use Rattle.eperftool.specs.declared.command.EncodeOptions.{EncodeOptions}
+use Rattle.packet_file.specs.Header.{HeaderFields, source_counts}
+use Rattle.packet_file.specs.Packets.{block_symbols}
+use Rattle.tool_base.specs.declared.status.Status.{Status}
+use Rattle.tool_base.specs.declared.status.Status.TheVariants as status
+use Rattle.eperftool.specs.Codes.{count_at, matrix_of}
+use Rattle.eperftool.specs.Received.{IsPacketFile, IsPacketOf, IsPeeled, IsStuck, IsContradicted, Packet, arrivals_of, spelled}
 use Rattle.eperftool.specs.declared.receive.Received.{Received}
-use Rattle.eperftool.specs.declared.decode.BlockOutcome.{BlockOutcome}
-use Rattle.eperftool.specs.declared.decode.BlockOutcome.TheVariants.{Absent, Peeled, Stuck, Contradicted}
+use Rattle.eperftool.specs.declared.outcome.BlockOutcome.{BlockOutcome}
+use Rattle.eperftool.specs.declared.outcome.BlockOutcome.TheVariants as outcome
 
--- the input was read to its end, and is the packet file of these options, transfer length and packets
-pub record ReadsFile (left left_now : Option (List ℕ)) (o : EncodeOptions) (transfer_length : ℕ) (arrivals : List Arrival) : Type 0 where
+-- the input was read to its end, and is the packet file of this header and these packets, at most `most`
+pub record ReadsFile (left left_now : Option (List ℕ)) (h : HeaderFields) (most : ℕ) (packets : List Packet) : Type 0 where
   pub bytes : List ℕ
   pub read : Consumes left left_now bytes
   pub ended : IsAtEnd left_now
-  pub file : IsPacketFile o transfer_length arrivals bytes
+  pub file : IsPacketFile h most packets bytes
 
 -- at most a header's bytes were taken
 abbrev pub TakesHeader : Option (List ℕ) → Option (List ℕ) → Type 0
 TakesHeader left left_now = (bytes : List ℕ) × Consumes left left_now bytes × (length bytes ≤ 26)
 
--- no packet file was read: the input ended there, or no packet file begins with these bytes
-abbrev pub ReadsNoFile : Option (List ℕ) → Option (List ℕ) → Type 0
-ReadsNoFile left left_now = (bytes : List ℕ) × Consumes left left_now bytes
-    × ((IsAtEnd left_now × IsNoPacketFile bytes) ⊎ ((rest : List ℕ) → IsNoPacketFile (bytes ++ rest)))
-
 -- memory lacked before a byte behind the header was taken, or after the whole packet file was read
-abbrev pub LacksMemory : Option (List ℕ) → Option (List ℕ) → Type 0
-LacksMemory left left_now = TakesHeader left left_now
-    ⊎ ((o : EncodeOptions) × (transfer_length : ℕ) × (arrivals : List Arrival) × ReadsFile left left_now o transfer_length arrivals)
+abbrev pub LacksMemory : ℕ → Option (List ℕ) → Option (List ℕ) → Type 0
+LacksMemory most left left_now = TakesHeader left left_now
+    ⊎ ((h : HeaderFields) × (packets : List Packet) × ReadsFile left left_now h most packets)
 
--- what is reported of the object's block
-abbrev pub block_line : BlockOutcome → List ℕ
-block_line Absent = []
-block_line Peeled = codes "block 0 peeled\n"
-block_line Stuck = codes "block 0 stuck\n"
-block_line Contradicted = codes "block 0 contradicted\n"
+-- what is said of a block
+abbrev pub outcome_word : BlockOutcome → List ℕ
+outcome_word outcome.Peeled = codes " peeled\n"
+outcome_word outcome.Stuck = codes " stuck\n"
+outcome_word outcome.Contradicted = codes " contradicted\n"
 
--- the report of a `decode`: the block's line, and the number of packets
-abbrev pub decode_report : BlockOutcome → ℕ → List ℕ
-decode_report outcome count = block_line outcome ++ codes "packets " ++ decimal count ++ codes "\n"
+-- what is reported of block b
+abbrev pub block_line : ℕ → BlockOutcome → List ℕ
+block_line b o = codes "block " ++ decimal b ++ outcome_word o
 
--- each source symbol is known
-abbrev pub HasAllSource : Decoder → Type 0
-HasAllSource d = (position : ℕ) → position < d.matrix.k → flagged d.known position ≡ true
+-- what is reported of the blocks
+abbrev pub block_lines : List BlockOutcome → List ℕ
+block_lines outcomes = flat_map (λ (p : ℕ × BlockOutcome). block_line p.0 p.1) (enumerate_from 0 outcomes)
 
--- what the packets of a file determine of its object: no block where it has no bytes, else its block by peeling, or nothing
-abbrev pub Determines : EncodeOptions → ℕ → List Arrival → BlockOutcome → List ℕ → Type 0
-Determines o transfer_length arrivals Absent object = (transfer_length ≡ 0) × (object ≡ [])
-Determines o transfer_length arrivals Peeled object = (1 ≤ transfer_length) × IsPeeled o transfer_length arrivals object
-Determines o transfer_length arrivals Stuck object = (1 ≤ transfer_length) × IsStuck o transfer_length arrivals × (object ≡ [])
-Determines o transfer_length arrivals Contradicted object = (1 ≤ transfer_length) × IsContradicted o transfer_length arrivals × (object ≡ [])
+-- the report of a `decode`: a line for each block, and the number of packets
+abbrev pub decode_report : List BlockOutcome → ℕ → List ℕ
+decode_report outcomes count = block_lines outcomes ++ codes "packets " ++ decimal count ++ codes "\n"
 
--- the input is a packet file, and this is its object, as its packets determine it, and its report
-pub record Decodes (left left_now : Option (List ℕ)) (outcome : BlockOutcome) (object report : List ℕ) : Type 0 where
-  pub options : EncodeOptions
-  pub transfer_length : ℕ
-  pub arrivals : List Arrival
-  pub file : ReadsFile left left_now options transfer_length arrivals
-  pub determined : Determines options transfer_length arrivals outcome object
-  pub report_is : report ≡ decode_report outcome (length arrivals)
+abbrev pub is_contradicted : BlockOutcome → Bool
+is_contradicted outcome.Contradicted = true
+is_contradicted _ = false
 
--- a decoder is one for the block of the file's object
-pub record IsDecoderFor (o : EncodeOptions) (transfer_length : ℕ) (d : Decoder) : Type 0 where
-  pub some : 1 ≤ transfer_length
-  pub matrix : d.matrix ≡ file_matrix o transfer_length
-  pub len : d.len ≡ o.symbol
+abbrev pub is_stuck : BlockOutcome → Bool
+is_stuck outcome.Stuck = true
+is_stuck _ = false
 
--- the decoder of a file's object, which has one exactly where it has bytes
-abbrev pub IsFor : EncodeOptions → ℕ → Option Decoder → Type 0
-IsFor o transfer_length None = transfer_length ≡ 0
-IsFor o transfer_length (Some d) = IsDecoderFor o transfer_length d
+-- the status of a `decode` whose blocks came out so: one that is contradicted decides, and then one that is stuck
+abbrev pub outcome_status : List BlockOutcome → Status
+outcome_status outcomes =
+    if list_any is_contradicted outcomes then status.NoCodeword
+    else if list_any is_stuck outcomes then status.Stuck
+    else status.Done
 
--- the decoder, where there is one, stands for these arrivals
-abbrev pub StandsForAll : List Arrival → Option Decoder → Type 0
-StandsForAll arrivals None = ⊤
-StandsForAll arrivals (Some d) = StandsFor d arrivals
+-- what the arrivals determine of a block: its source by peeling, or nothing
+abbrev pub Determines : Matrix → ℕ → List Arrival → BlockOutcome → List (List ℕ) → Type 0
+Determines m len arrivals outcome.Peeled source = IsPeeled m len arrivals source
+Determines m len arrivals outcome.Stuck source = IsStuck m len arrivals × (source ≡ [])
+Determines m len arrivals outcome.Contradicted source = IsContradicted m len arrivals × (source ≡ [])
 
--- packets were taken from the input: a decoder of those before is now one of those before and of these
-pub record TakesPackets (left left_now : Option (List ℕ)) (o : EncodeOptions) (transfer_length : ℕ) (decoder decoder_now : Option Decoder) (arrivals : List Arrival) : Type 0 where
-  pub packets : All (IsPacketOf o transfer_length) arrivals
-  pub taken : Consumes left left_now (spelled arrivals)
-  pub stands : (before : List Arrival) → StandsForAll before decoder → StandsForAll (before ++ arrivals) decoder_now
+-- what the packets determine of block b of the file, by its matrix
+pub record IsDetermined (h : HeaderFields) (draws : Option ℕ) (packets : List Packet) (b : ℕ) (o : BlockOutcome) (source : List (List ℕ)) : Type 0 where
+  pub matrix : Matrix
+  pub code : matrix_of h draws (count_at h b) ≡ Some matrix
+  pub determined : Determines matrix h.oti.symbol (arrivals_of b packets) o source
 
--- behind a file's header the input was read to its end, and it is the file's packets, which a decoder takes in
-pub record ReadsPackets (left left_now : Option (List ℕ)) (o : EncodeOptions) (transfer_length : ℕ) (decoder decoder_now : Option Decoder) (count : ℕ) (arrivals : List Arrival) : Type 0 where
-  pub took : TakesPackets left left_now o transfer_length decoder decoder_now arrivals
+-- the bytes of source blocks, one after the other
+abbrev pub joined : List (List (List ℕ)) → List ℕ
+joined sources = flat_map (flat_map (λ symbol. symbol)) sources
+
+-- the input is a packet file, and so its blocks come out by its packets; this is the object, where each block has a source, and the report
+pub record Decodes (draws : Option ℕ) (most : ℕ) (left left_now : Option (List ℕ)) (outcomes : List BlockOutcome) (object report : List ℕ) : Type 0 where
+  pub header : HeaderFields
+  pub packets : List Packet
+  pub file : ReadsFile left left_now header most packets
+  pub sources : List (List (List ℕ))
+  pub counted : length outcomes ≡ length (source_counts header)
+  pub sources_counted : length sources ≡ length (source_counts header)
+  pub determined : (b : ℕ) (o : BlockOutcome) → b < length outcomes → IsDetermined header draws packets b (slice_index_or outcomes b o) (slice_index_or sources b [])
+  pub object_is : object ≡ take header.oti.length (joined sources)
+  pub report_is : report ≡ decode_report outcomes (length packets)
+
+-- the decoders are those of the file's blocks
+pub record AreDecoders (h : HeaderFields) (draws : Option ℕ) (decoders : List Decoder) : Type 0 where
+  pub counted : length decoders ≡ length (source_counts h)
+  pub matrix : (b : ℕ) (d : Decoder) → b < length decoders → matrix_of h draws (count_at h b) ≡ Some (slice_index_or decoders b d).matrix
+  pub len : (b : ℕ) (d : Decoder) → b < length decoders → (slice_index_or decoders b d).len ≡ h.oti.symbol
+
+-- each decoder stands for what arrived for its block
+abbrev pub StandForAll : List Packet → List Decoder → Type 0
+StandForAll packets decoders = (b : ℕ) (d : Decoder) → b < length decoders → StandsFor (slice_index_or decoders b d) (arrivals_of b packets)
+
+-- packets were taken from the input: decoders of those before are now decoders of those before and of these
+pub record TakesPackets (left left_now : Option (List ℕ)) (h : HeaderFields) (decoders decoders_now : List Decoder) (packets : List Packet) : Type 0 where
+  pub each : All (IsPacketOf h) packets
+  pub taken : Consumes left left_now (spelled packets)
+  pub stand : (before : List Packet) → StandForAll before decoders → StandForAll (before ++ packets) decoders_now
+
+-- behind a file's header the input was read to its end, and it is the file's packets, which the decoders take in
+pub record ReadsPackets (left left_now : Option (List ℕ)) (h : HeaderFields) (most : ℕ) (decoders decoders_now : List Decoder) (count : ℕ) (packets : List Packet) : Type 0 where
+  pub took : TakesPackets left left_now h decoders decoders_now packets
   pub ended : IsAtEnd left_now
-  pub counted : count ≡ length arrivals
-  pub most : count ≤ 16777216
+  pub counted : count ≡ length packets
+  pub few : count ≤ most
 
--- behind a file's header no packets of a packet file were read
-abbrev pub ReadsNoPackets : Option (List ℕ) → Option (List ℕ) → EncodeOptions → ℕ → Type 0
-ReadsNoPackets left left_now o transfer_length = (bytes : List ℕ) × Consumes left left_now bytes
-    × ((IsAtEnd left_now × IsNoPacketFile (header o transfer_length ++ bytes)) ⊎ ((rest : List ℕ) → IsNoPacketFile (header o transfer_length ++ (bytes ++ rest))))
+-- each decoder has the encoding symbols of its block, and the length of a symbol
+pub record AreSized (h : HeaderFields) (decoders : List Decoder) : Type 0 where
+  pub counted : length decoders ≡ length (source_counts h)
+  pub symbols : (b : ℕ) (d : Decoder) → b < length decoders → (slice_index_or decoders b d).matrix.n ≡ block_symbols h b
+  pub len : (b : ℕ) (d : Decoder) → b < length decoders → (slice_index_or decoders b d).len ≡ h.oti.symbol
 
 -- a file that was received: its packets, counted, and what is kept of them
-pub record IsReceived (left left_now : Option (List ℕ)) (r : Received) (arrivals : List Arrival) : Type 0 where
-  pub file : ReadsFile left left_now r.header.options r.header.transfer_length arrivals
-  pub counted : r.packets ≡ length arrivals
-  pub decoder : IsFor r.header.options r.header.transfer_length r.decoder
-  pub stands : StandsForAll arrivals r.decoder
+pub record IsReceived (draws : Option ℕ) (most : ℕ) (left left_now : Option (List ℕ)) (r : Received) (packets : List Packet) : Type 0 where
+  pub file : ReadsFile left left_now r.header most packets
+  pub counted : r.packets ≡ length packets
+  pub decoders : AreDecoders r.header draws r.cores.items
+  pub sized : AreSized r.header r.cores.items
+  pub stand : StandForAll packets r.cores.items
 
--- a piece of bytes is a packet of the file, and a decoder of those before it is now one of those before and of this one
-pub record TakesPiece (o : EncodeOptions) (transfer_length : ℕ) (decoder decoder_now : Option Decoder) (piece : List ℕ) (arrival : Arrival) : Type 0 where
-  pub packet_of : IsPacketOf o transfer_length arrival
-  pub piece_is : piece ≡ packet 0 arrival.0 arrival.1
-  pub stands : (before : List Arrival) → StandsForAll before decoder → StandsForAll (before ++ arrival ∷ []) decoder_now
+-- how a decoder of all packets of its block came out
+abbrev pub ComesOut : Decoder → BlockOutcome → Type 0
+ComesOut d outcome.Peeled = (d.clashed ≡ false) × HasAllSource d
+ComesOut d outcome.Stuck = (d.clashed ≡ false) × ¬ HasAllSource d
+ComesOut d outcome.Contradicted = d.clashed ≡ true
 
--- what was taken from the input is no packet of the file: it is cut short by the input's end, or as long as a packet and no packet of the file
-abbrev pub TakesNoPacket : Option (List ℕ) → Option (List ℕ) → EncodeOptions → ℕ → Type 0
-TakesNoPacket left left_now o transfer_length = (bytes : List ℕ) × Consumes left left_now bytes
-    × ((IsAtEnd left_now × (0 < length bytes) × (length bytes < 4 + o.symbol))
-    ⊎ ((length bytes ≡ 4 + o.symbol) × ((a : Arrival) → IsPacketOf o transfer_length a → bytes ≢ packet 0 a.0 a.1)))
+-- how the decoders, each of a code, came out
+pub record ComeOut (decoders : List Decoder) (outcomes : List BlockOutcome) : Type 0 where
+  pub counted : length outcomes ≡ length decoders
+  pub codes : All (λ d. IsCode d.matrix) decoders
+  pub each : (b : ℕ) (d : Decoder) (o : BlockOutcome) → b < length decoders → ComesOut (slice_index_or decoders b d) (slice_index_or outcomes b o)
 
--- how a decoder of all packets came out
-abbrev pub ComesOut : Option Decoder → BlockOutcome → Type 0
-ComesOut None Absent = ⊤
-ComesOut None Peeled = ⊥
-ComesOut None Stuck = ⊥
-ComesOut None Contradicted = ⊥
-ComesOut (Some d) Absent = ⊥
-ComesOut (Some d) Peeled = (d.clashed ≡ false) × HasAllSource d
-ComesOut (Some d) Stuck = (d.clashed ≡ false) × ¬ HasAllSource d
-ComesOut (Some d) Contradicted = d.clashed ≡ true
+-- each decoder has its source
+abbrev pub HaveAllSource : List Decoder → Type 0
+HaveAllSource decoders = All HasAllSource decoders
 
--- the source symbols that a decoder keeps, one after the other, cut to the object's length
-abbrev pub source_bytes : Decoder → ℕ → List ℕ
-source_bytes d size = take size (flat_map (kept d) (range_with_len 0 d.matrix.k))
+-- the source symbols that a decoder keeps, one after the other
+abbrev pub source_bytes : Decoder → List ℕ
+source_bytes d = flat_map (kept d) (range_with_len 0 d.matrix.k)
 
--- the bytes that are kept of an object: none where it has no block
-abbrev pub kept_object : Option Decoder → ℕ → List ℕ
-kept_object None size = []
-kept_object (Some d) size = source_bytes d size
+-- the source symbols that all decoders keep, cut to the object's length
+abbrev pub kept_object : List Decoder → ℕ → List ℕ
+kept_object decoders size = take size (flat_map source_bytes decoders)
 
--- the outcomes that give an object
-abbrev pub IsWhole : BlockOutcome → Type 0
-IsWhole Absent = ⊤
-IsWhole Peeled = ⊤
-IsWhole Stuck = ⊥
-IsWhole Contradicted = ⊥
+-- the decoders keep their codes and the length of a symbol
+pub record KeepCodes (decoders decoders_now : List Decoder) : Type 0 where
+  pub counted : length decoders_now ≡ length decoders
+  pub matrix : (b : ℕ) (d : Decoder) → b < length decoders → (slice_index_or decoders_now b d).matrix ≡ (slice_index_or decoders b d).matrix
+  pub len : (b : ℕ) (d : Decoder) → b < length decoders → (slice_index_or decoders_now b d).len ≡ (slice_index_or decoders b d).len

@@ -1,8 +1,11 @@
-pub mod Status
-pub mod Command
+pub mod Options
+pub mod Codes
 pub mod File
 pub mod Made
 pub mod Received
 pub mod Decoded
 pub mod Staged
+pub mod Refused
+pub mod Object
 pub mod Run
+pub mod Laws

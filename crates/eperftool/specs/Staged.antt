@@ -12,3 +12,10 @@ pub record PassesOn (held held_now : Option (List ℕ)) (before after bytes : Li
   pub sent : List ℕ
   pub appended : Appends held held_now sent
   pub rest : sent ++ after ≡ before ++ bytes
+
+-- of the bytes that waited before, and a part of these behind them, from its front on, a front was appended to the sink
+pub record PassesPart (held held_now : Option (List ℕ)) (before after bytes : List ℕ) : Type 0 where
+  pub part : List ℕ
+  pub passed : PassesOn held held_now before after part
+  pub rest : List ℕ
+  pub whole : bytes ≡ part ++ rest

@@ -1,179 +1,143 @@
-// The packet file of an object, made ready and written.
-ghost use Rattle.std.specs.Prelude.{◌≡◌, ◌≤◌, ◌<◌, ◌+◌, ◌*◌, ◌++◌, [], vec_len, length, IfOk, IfSome, OnOk, OnErr};
-ghost use Rattle.std.specs.Io.KnownBytes.{Appends};
+// The `encode` of an object: its packet file, made ready and written.
+ghost use Rattle.std.specs.Prelude.{◌≡◌, ◌≢◌, ◌≤◌, ◌<◌, ◌⊎◌, ◌++◌, [], ℕ, List, All, length, vec_len, sum_by, IfOk, IfErr, OnOk, OnErr};
+ghost use Rattle.std.specs.Io.KnownBytes.{Appends, Keeps};
+ghost use Rattle.tool_base.specs.Commands.{IsInRange};
 ghost use Rattle.fec_base.specs.Bytes.{AppendsFront};
 ghost use Rattle.fec_base.specs.Causes.{HasCause};
-ghost use Rattle.eperftool.specs.Command.{IsInLimits};
-ghost use Rattle.eperftool.specs.File.{AreEncoded, IsEncodedSource, IsEncoding, source_symbols, block_packets, packet, packets};
-ghost use Rattle.eperftool.specs.Made.{words_of, IsFitting, IsReady, made_file};
-ghost use Rattle.eperftool.specs.Staged.{PassesOn};
+ghost use Rattle.packet_file.specs.Header.{header_bytes};
+ghost use Rattle.eperftool.specs.File.{encode_report, packets};
+ghost use Rattle.eperftool.specs.Options.{encode_command, header_for};
+ghost use Rattle.eperftool.specs.Made.{AreWords, IsMade, IsReady, RefusesMaking};
+ghost use Rattle.eperftool.specs.Refused.{IsRefused, ReadsObject, RefusesEncode, refusal_status, refusal_text};
+ghost use Rattle.eperftool.specs.declared.refusal.Refusal.TheVariants.{Memory};
+ghost use Rattle.eperftool.specs.Run.{AppendsPart, EncodesBy, IsCut, IsTold, TakesSome};
 
-use crate::fields::{make_header, make_report};
-use crate::{EncodeOptions, Staging};
-use byteorder::{BigEndian, ByteOrder};
-use fec_base::{NoMemory, Sink, WriteFailed};
-use fec_session::{Coded, encode_block};
-use parity_2d::parity_2d;
+use crate::{
+    EncodeOptions, Refusal, Staging, WriteRefusal, build_codes, conclude, put_numbered,
+    read_object, refuse, tell, write_file,
+};
+use fec_base::{Sink, Source, WriteFailed};
+use packet_file::Header;
+use sparse_rows::Code;
 use std::alloc::Global;
+use tool_base::Status;
 
 /// How many bytes wait for the output at most: room for many packets, which it takes as one piece.
 pub const STAGING_LEN: usize = 262_144;
 
-/// The codeword of a source block, and how many encoding symbols it has.
-#[derive(Drop)]
-pub struct EncodedBlock {
-    pub word: Coded,
-    pub count: u32,
-}
-
-/// A packet file that is ready to be written, and its report. All memory is taken.
+/// What is ready to be written: the header, the object with its last source symbol padded, and the
+/// codes of its blocks.
 #[derive(Drop)]
 pub struct Made {
-    pub header: Vec<u8>,
-    pub blocks: Option<EncodedBlock>,
-    pub report: Vec<u8>,
+    pub header: Header,
+    pub object: Vec<u8>,
+    pub codes: Vec<Code>,
     pub staging: Staging,
 }
 
-/// Makes the packet file of an object ready.
-pub fn make_file(alloc: Global, options: &EncodeOptions, object: Vec<u8>) -> Result<Made, NoMemory>
-    requires limits { IsInLimits options.now }
-    requires fits { vec_len object ≤ options.now.block * options.now.symbol }
-    ensures encoding { IfOk result (λ made. IsEncoding options.now object.items (made_file made) made.report.items) }
-    ensures ready { IfOk result IsReady }
+/// Encodes the input.
+pub fn encode<S: Source, K: Sink, R: Sink>(
+    alloc: Global,
+    options: &EncodeOptions,
+    input: &mut S,
+    output: &mut K,
+    report: &mut R,
+) -> Status
+    requires { IsInRange (encode_command options.now) }
+    ensures done { result ≡ Status.Done → (file : List ℕ) × (text : List ℕ) × EncodesBy options.now (S.left input.old) (S.left input.new) file text
+        × Appends (K.held output.old) (K.held output.new) file × Appends (R.held report.old) (R.held report.new) text }
+    ensures cut { result ≡ Status.WriteFault → (file : List ℕ) × (text : List ℕ) × EncodesBy options.now (S.left input.old) (S.left input.new) file text
+        × IsCut file text (K.held output.old) (K.held output.new) (K.faults output.old) (K.faults output.new) (R.held report.old) (R.held report.new) (R.faults report.old) (R.faults report.new) }
+    ensures refused { IsRefused result → (refusal : Refusal) × (result ≡ refusal_status refusal)
+        × RefusesEncode options.now (S.left input.old) (S.left input.new) (S.faults input.old) (S.faults input.new) refusal
+        × IsTold (refusal_text refusal) (R.held report.old) (R.held report.new) (R.faults report.old) (R.faults report.new) }
+    ensures unwritten { IsRefused result → result ≢ Status.Memory → Keeps (K.held output.old) (K.held output.new) }
+    ensures memory { result ≡ Status.Memory → Keeps (K.held output.old) (K.held output.new)
+        ⊎ ((file : List ℕ) × (text : List ℕ) × EncodesBy options.now (S.left input.old) (S.left input.new) file text × AppendsPart (K.held output.old) (K.held output.new) file) }
+    ensures ends { (IsRefused result) ⊎ ((result ≡ Status.Done) ⊎ (result ≡ Status.WriteFault)) }
+    ensures taken { TakesSome (S.left input.old) (S.left input.new) }
 {
-    let header = make_header(alloc, options, object.len() as u64)?;
-    let blocks = encode_object(alloc, options, object)?;
-    let (count, packets) = match &blocks {
-        Some(block) => (1, block.count),
-        None => (0, 0),
-    };
-    let report = make_report(alloc, count, packets)?;
+    match read_and_make(alloc, options, input) {
+        Ok(made) => deliver(alloc, made, output, report),
+        Err(refusal) => refuse(report, refusal),
+    }
+}
+
+// Reads the input and makes its packet file ready, or says why there is none.
+fn read_and_make<S: Source>(
+    alloc: Global,
+    options: &EncodeOptions,
+    input: &mut S,
+) -> Result<Made, Refusal>
+    requires { IsInRange (encode_command options.now) }
+    ensures object { IfOk result (λ made. (object : List ℕ) × ReadsObject options.now (S.left input.old) (S.left input.new) object × IsMade (header_for options.now (length object)) options.now.shape.draws object made) }
+    ensures refusal { IfErr result (RefusesEncode options.now (S.left input.old) (S.left input.new) (S.faults input.old) (S.faults input.new)) }
+    ensures taken { TakesSome (S.left input.old) (S.left input.new) }
+{
+    let object = read_object(alloc, input)?;
+    make_file(alloc, options, object)
+}
+
+// Makes the packet file of an object ready.
+fn make_file(alloc: Global, options: &EncodeOptions, mut object: Vec<u8>) -> Result<Made, Refusal>
+    requires range { IsInRange (encode_command options.now) }
+    requires most { vec_len object ≤ 268435456 }
+    ensures made { IfOk result (IsMade (header_for options.now (vec_len object)) options.now.shape.draws object.items) }
+    ensures refusal { IfErr result (RefusesMaking options.now object.items) }
+{
+    let header = options.header(object.len() as u64)?;
+    let codes = build_codes(alloc, &header, options.shape.draws)?;
+    let len = options.symbol as usize;
+    let padded = object.len().div_ceil(len) * len;
+    object.resize(padded, 0)?;
     let staging = Staging::new(alloc, STAGING_LEN)?;
     Ok(Made {
         header,
-        blocks,
-        report,
+        object,
+        codes,
         staging,
     })
 }
 
-// The codeword of the object's source block, where it has one. The object's memory is given up.
-fn encode_object(
-    alloc: Global,
-    options: &EncodeOptions,
-    object: Vec<u8>,
-) -> Result<Option<EncodedBlock>, NoMemory>
-    requires limits { IsInLimits options.now }
-    requires fits { vec_len object ≤ options.now.block * options.now.symbol }
-    ensures encoded { IfOk result (λ block. AreEncoded options.now object.items (words_of block)) }
-    ensures fitting { IfOk result (λ block. IfSome block (IsFitting options.now.symbol)) }
+// Writes the packet file and then the report.
+fn deliver<K: Sink, R: Sink>(alloc: Global, made: Made, output: &mut K, report: &mut R) -> Status
+    requires ready { IsReady made.header made.codes.items made.object.items }
+    requires empty { made.staging.bytes ≡ [] }
+    requires room { made.staging.room ≡ 262144 }
+    ensures done { result ≡ Status.Done → (words : List (List (List ℕ))) → AreWords made.header made.codes.items made.object.items words
+        → Appends (K.held output.old) (K.held output.new) (header_bytes made.header ++ packets words)
+        × Appends (R.held report.old) (R.held report.new) (encode_report (length words) (sum_by length words)) }
+    ensures cut { result ≡ Status.WriteFault → (words : List (List (List ℕ))) → AreWords made.header made.codes.items made.object.items words
+        → IsCut (header_bytes made.header ++ packets words) (encode_report (length words) (sum_by length words))
+        (K.held output.old) (K.held output.new) (K.faults output.old) (K.faults output.new) (R.held report.old) (R.held report.new) (R.faults report.old) (R.faults report.new) }
+    ensures memory { result ≡ Status.Memory → (words : List (List (List ℕ))) → AreWords made.header made.codes.items made.object.items words
+        → AppendsPart (K.held output.old) (K.held output.new) (header_bytes made.header ++ packets words) }
+    ensures told { result ≡ Status.Memory → IsTold (refusal_text Memory) (R.held report.old) (R.held report.new) (R.faults report.old) (R.faults report.new) }
+    ensures ends { (result ≡ Status.Memory) ⊎ ((result ≡ Status.Done) ⊎ (result ≡ Status.WriteFault)) }
+    ensures bytes { All (λ byte. byte < 256) made.object.items }
 {
-    if object.is_empty() {
-        return Ok(None);
+    let Made {
+        header,
+        object,
+        codes,
+        mut staging,
+    } = made;
+    match write_file(alloc, &mut staging, output, &header, &codes, &object) {
+        Ok(()) => {}
+        Err(WriteRefusal::Memory) => return refuse(report, Refusal::Memory),
+        Err(WriteRefusal::Output) => return tell(report, Status::WriteFault),
     }
-    Ok(Some(encode_source(alloc, options, object)?))
+    let reported = put_encode_report(report, header.plan().count(), header.total_symbols());
+    conclude(reported, Status::Done)
 }
 
-// The codeword of an object that has bytes.
-fn encode_source(
-    alloc: Global,
-    options: &EncodeOptions,
-    mut object: Vec<u8>,
-) -> Result<EncodedBlock, NoMemory>
-    requires limits { IsInLimits options.now }
-    requires some { 0 < vec_len object }
-    requires fits { vec_len object ≤ options.now.block * options.now.symbol }
-    ensures encoded { IfOk result (λ block. IsEncodedSource options.now (source_symbols options.now.symbol object.items) block.word) }
-    ensures fitting { IfOk result (IsFitting options.now.symbol) }
+// Reports how many blocks and packets were written.
+fn put_encode_report<R: Sink>(report: &mut R, blocks: u32, packets: u64) -> Result<(), WriteFailed>
+    ensures written { OnOk result (Appends (R.held report.old) (R.held report.new) (encode_report blocks packets)) }
+    ensures cut { OnErr result (AppendsFront (R.held report.old) (R.held report.new) (encode_report blocks packets)) }
+    ensures cause { HasCause (R.faults report.old) (R.faults report.new) result }
 {
-    let len = options.symbol as usize;
-    let k = object.len().div_ceil(len);
-    object.resize(k * len, 0)?;
-    let code = parity_2d(alloc, k as u32, options.width)?;
-    let word = encode_block(alloc, &code, &object, options.symbol)?;
-    Ok(EncodedBlock {
-        word,
-        count: code.n(),
-    })
-}
-
-/// Writes a packet file by a staging buffer in which nothing waits. After a failure the sink has a
-/// front of the file that isn't the whole.
-pub fn write_file<K: Sink>(
-    staging: &mut Staging,
-    sink: &mut K,
-    header: &[u8],
-    blocks: &Option<EncodedBlock>,
-) -> Result<(), WriteFailed>
-    requires empty { staging.old.bytes ≡ [] }
-    requires header { length header.now ≤ staging.old.room }
-    requires identifier { 4 ≤ staging.old.room }
-    requires blocks { IfSome blocks.now (IsFitting staging.old.room) }
-    ensures written { OnOk result (Appends (K.held sink.old) (K.held sink.new) (header.now ++ packets (words_of blocks.now))) }
-    ensures cut { OnErr result (AppendsFront (K.held sink.old) (K.held sink.new) (header.now ++ packets (words_of blocks.now))) }
-    ensures cause { HasCause (K.faults sink.old) (K.faults sink.new) result }
-{
-    staging.put(sink, header)?;
-    put_blocks(staging, sink, blocks)?;
-    staging.flush(sink)?;
-    Ok(())
-}
-
-// Puts the packets of all blocks, of which there is at most one.
-fn put_blocks<K: Sink>(
-    staging: &mut Staging,
-    sink: &mut K,
-    blocks: &Option<EncodedBlock>,
-) -> Result<(), WriteFailed>
-    requires identifier { 4 ≤ staging.old.room }
-    requires blocks { IfSome blocks.now (IsFitting staging.old.room) }
-    ensures passed { OnOk result (PassesOn (K.held sink.old) (K.held sink.new) staging.old.bytes staging.new.bytes (packets (words_of blocks.now))) }
-    ensures cut { OnErr result (AppendsFront (K.held sink.old) (K.held sink.new) (staging.old.bytes ++ packets (words_of blocks.now))) }
-    ensures cause { HasCause (K.faults sink.old) (K.faults sink.new) result }
-{
-    match blocks {
-        Some(block) => put_block(staging, sink, block),
-        None => Ok(()),
-    }
-}
-
-// Puts the packets of a block, in rising order of the ESI.
-fn put_block<K: Sink>(
-    staging: &mut Staging,
-    sink: &mut K,
-    block: &EncodedBlock,
-) -> Result<(), WriteFailed>
-    requires identifier { 4 ≤ staging.old.room }
-    requires block { IsFitting staging.old.room block.now }
-    ensures passed { OnOk result (PassesOn (K.held sink.old) (K.held sink.new) staging.old.bytes staging.new.bytes (block_packets 0 block.now.word)) }
-    ensures cut { OnErr result (AppendsFront (K.held sink.old) (K.held sink.new) (staging.old.bytes ++ block_packets 0 block.now.word)) }
-    ensures room { staging.new.room ≡ staging.old.room }
-    ensures cause { HasCause (K.faults sink.old) (K.faults sink.new) result }
-{
-    for e in 0..block.count {
-        put_packet(staging, sink, e, block.word.symbol(e))?;
-    }
-    Ok(())
-}
-
-// Puts a packet of the first source block, whose number is 0: the identifier is then the ESI.
-fn put_packet<K: Sink>(
-    staging: &mut Staging,
-    sink: &mut K,
-    e: u32,
-    symbol: &[u8],
-) -> Result<(), WriteFailed>
-    requires identifier { 4 ≤ staging.old.room }
-    requires symbol { length symbol.now ≤ staging.old.room }
-    ensures passed { OnOk result (PassesOn (K.held sink.old) (K.held sink.new) staging.old.bytes staging.new.bytes (packet 0 e symbol.now)) }
-    ensures cut { OnErr result (AppendsFront (K.held sink.old) (K.held sink.new) (staging.old.bytes ++ packet 0 e symbol.now)) }
-    ensures room { staging.new.room ≡ staging.old.room }
-    ensures cause { HasCause (K.faults sink.old) (K.faults sink.new) result }
-{
-    let mut identifier = [0u8; 4];
-    BigEndian::write_u32(&mut identifier, e);
-    staging.put(sink, &identifier)?;
-    staging.put(sink, symbol)?;
+    put_numbered(report, "blocks ", blocks as u64)?;
+    put_numbered(report, "packets ", packets)?;
     Ok(())
 }

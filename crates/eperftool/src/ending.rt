@@ -1,35 +1,37 @@
-// How a run ends, and what it reports.
-ghost use Rattle.std.specs.Prelude.{◌≡◌, ◌⊎◌, OnOk, OnErr, codes};
-ghost use Rattle.std.specs.Io.KnownBytes.{Appends};
-ghost use Rattle.fec_base.specs.Bytes.{AppendsFront};
-ghost use Rattle.fec_base.specs.Causes.{Rose};
+// How a run ends.
+ghost use Rattle.std.specs.Prelude.{◌≡◌, ◌≢◌, ◌⊎◌, OnOk, OnErr};
+ghost use Rattle.tool_base.specs.Status.{fault_text};
 ghost use Rattle.eperftool.specs.Run.{IsTold};
 
-use crate::Status;
-use fec_base::{Sink, WriteFailed, write_all};
+use fec_base::{Sink, Watch, WriteFailed};
+use tool_base::{Status, put_text};
 
-/// Ends a run whose output was written, or failed: the report is the text, or says that the output
-/// failed.
-pub fn conclude<R: Sink>(written: Result<(), WriteFailed>, report: &mut R, text: &[u8]) -> Status
-    ensures done { result ≡ Status.Done → OnErr written ⊥ × Appends (R.held report.old) (R.held report.new) text.now }
-    ensures cut { result ≡ Status.WriteFault → (OnOk written ⊥ × IsTold (codes "fault: write\n") (R.held report.old) (R.held report.new) (R.faults report.old) (R.faults report.new))
-        ⊎ (OnErr written ⊥ × Rose (R.faults report.old) (R.faults report.new) × AppendsFront (R.held report.old) (R.held report.new) text.now) }
-    ensures ends { (result ≡ Status.Done) ⊎ (result ≡ Status.WriteFault) }
-{
-    if written.is_err() {
-        tell(report, Status::WriteFault.fault_text().as_bytes());
-        return Status::WriteFault;
-    }
-    match write_all(report, text) {
-        Ok(()) => Status::Done,
-        Err(WriteFailed) => Status::WriteFault,
-    }
+/// How a run ended, and the watch that was handed in.
+#[derive(Drop)]
+pub struct Ended {
+    pub status: Status,
+    pub watch: Box<dyn Watch>,
 }
 
-/// Reports the text, as far as the report takes it: a report that fails changes no status but
-/// `Done`.
-pub fn tell<R: Sink>(report: &mut R, text: &[u8])
-    ensures { IsTold text.now (R.held report.old) (R.held report.new) (R.faults report.old) (R.faults report.new) }
+/// Ends a run with a status whose report goes by nothing else: it takes the text as far as it can.
+pub fn tell<R: Sink>(report: &mut R, status: Status) -> Status
+    ensures status { result ≡ status }
+    ensures told { IsTold (fault_text status) (R.held report.old) (R.held report.new) (R.faults report.old) (R.faults report.new) }
 {
-    let _ = write_all(report, text);
+    let _ = put_text(report, status.fault_text());
+    status
+}
+
+/// The status of a run whose output is whole, by how its report came out: a report that fails makes
+/// `WriteFault` of `Done`, and changes no other status.
+pub fn conclude(reported: Result<(), WriteFailed>, status: Status) -> Status
+    ensures kept { (result ≡ status) ⊎ (result ≡ Status.WriteFault) }
+    ensures whole { OnOk reported (result ≡ status) }
+    ensures failed { OnErr reported (status ≡ Status.Done → result ≡ Status.WriteFault) }
+    ensures other { status ≢ Status.Done → result ≡ status }
+{
+    match reported {
+        Err(WriteFailed) if status == Status::Done => Status::WriteFault,
+        _ => status,
+    }
 }

@@ -1,45 +1,47 @@
 //! The program `eperftool`: words and an input in, a packet file or its object and a report out.
 //! `run` is its top call, whose contract says what a user gets; `main` hands it the standard streams.
-//! It stands on `parity_2d` for the matrix of a block, on `fec_session` for its codeword and its
-//! decoder, on `peeling` and `sparse_rows` for the definitions that its contracts cite, and on
-//! `fec_base` for the outside.
+//! It stands on `tool_base` for the words and for the code of a block, on `packet_file` for headers
+//! and packets, on `fec_session` for codewords and decoders, on `peeling` and `sparse_rows` for the
+//! definitions that its contracts cite, and on `fec_base` for the outside.
 #![tactic(auto)]
 
-mod command;
+mod block_codes;
 mod decode;
 mod encode;
 mod ending;
-mod fields;
-mod header;
 mod laws;
 mod object;
+mod options;
+mod outcome;
 mod receive;
+mod refusal;
+mod report;
 mod run;
 mod staging;
-mod status;
+mod write;
 
-pub use command::{Command, EncodeOptions, read_words};
-pub use decode::{BlockOutcome, decode};
-pub use encode::{EncodedBlock, Made, STAGING_LEN, make_file, write_file};
-pub use ending::{conclude, tell};
+pub use block_codes::{build_codes, find_code};
+pub use decode::decode;
+pub use encode::{Made, STAGING_LEN, encode};
+pub use ending::{Ended, conclude, tell};
 use fec_base::{NoMemory, QuietWatch, ReadSource, Watch, Words, WriteSink};
-pub use fields::{make_header, make_report};
-pub use header::{FileHeader, HEADER_LEN, parse_header};
 pub use laws::{
-    one_encoding_for_each_object, one_meaning_for_the_words, one_reading_for_each_file,
+    one_encoding_for_each_object, one_outcome_for_each_file, one_reading_for_each_file,
 };
-pub use object::{ObjectFault, read_object};
+pub use object::read_object;
+pub use options::{EncodeOptions, is_later};
+pub use outcome::{BlockOutcome, block_outcomes, outcome_status, put_decode_report};
 pub use receive::{Received, receive};
+pub use refusal::{Refusal, refuse};
+use report::put_numbered;
 pub use run::run;
 pub use staging::Staging;
-pub use status::{Ended, Status};
 use std::alloc::Global;
 use std::env;
 use std::io::{BufReader, ErrorKind};
 use std::process::ExitCode;
-
-// The exit status of words that can't be read, of which one isn't UTF-8.
-const USAGE: u8 = 2;
+use tool_base::Status;
+pub use write::{WriteRefusal, write_file};
 
 // The input is read in pieces of this length, whatever the reads ask for.
 const INPUT_BUFFER_LEN: usize = 262_144;
@@ -50,7 +52,8 @@ fn collect_words(rt: &HostRuntime) -> Result<Words, u8> {
     let args = match env::args(rt) {
         Ok(args) => args,
         Err(e) if e.kind() == ErrorKind::OutOfMemory => return Err(Status::Memory.code()),
-        Err(_) => return Err(USAGE),
+        // A word isn't UTF-8.
+        Err(_) => return Err(Status::Usage.code()),
     };
     for word in args.skip(1) {
         match words.push(word.as_str()) {

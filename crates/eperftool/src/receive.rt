@@ -1,100 +1,87 @@
 // A packet file, received packet by packet.
-ghost use Rattle.std.specs.Prelude.{◌≡◌, ◌≤◌, ◌+◌, true, false, List, [], ◌∷◌, length, IfOk, IfErr, OnOk, OnErr, ◌≢◌};
+ghost use Rattle.std.specs.Prelude.{◌≡◌, ◌≢◌, ◌≤◌, ◌<◌, ◌+◌, ℕ, List, true, false, [], ◌∷◌, length, Ok, Err, IfOk, IfErr, OnOk, OnErr, Contains};
 ghost use Rattle.std.specs.Io.KnownBytes.{Consumes, IsAtEnd};
 ghost use Rattle.fec_base.specs.Causes.{Rose};
-ghost use Rattle.sparse_rows.specs.Codeword.{Arrival};
+ghost use Rattle.peeling.specs.Stands.{StandsFor};
+ghost use Rattle.packet_file.specs.Header.{source_counts};
+ghost use Rattle.packet_file.specs.Reading.{FailsAtPacket};
+ghost use Rattle.eperftool.specs.Codes.{HasMatrix, HasSize, RefusesCodes, count_at};
+ghost use Rattle.eperftool.specs.Received.{Packet};
+ghost use Rattle.eperftool.specs.Decoded.{AreDecoders, AreSized, IsReceived, KeepCodes, LacksMemory, ReadsPackets, StandForAll, TakesPackets};
+ghost use Rattle.eperftool.specs.Refused.{FailsAtPackets, RefusesDecode, TakesBroken};
 ghost use Rattle.eperftool.specs.Run.{TakesSome};
-ghost use Rattle.eperftool.specs.Status.{IsEarly};
-ghost use Rattle.eperftool.specs.File.{header, packet};
-ghost use Rattle.eperftool.specs.Received.{IsFileHeader, IsPacketOf};
-ghost use Rattle.eperftool.specs.Decoded.{IsFor, StandsForAll, IsReceived, ReadsNoFile, TakesHeader, TakesNoPacket, TakesPackets, TakesPiece, ReadsNoPackets, ReadsPackets};
+ghost use Rattle.eperftool.specs.declared.refusal.Refusal.TheVariants.{Memory};
 
-use crate::{EncodeOptions, FileHeader, HEADER_LEN, Status, parse_header};
-use byteorder::{BigEndian, ByteOrder};
-use fec_base::{NoMemory, ReadFailed, Source, Steps, Tally, read_full};
+use crate::{Refusal, build_codes, find_code};
+use fec_base::{NoMemory, Source, Steps, Tally};
 use fec_session::Core;
-use parity_2d::parity_2d;
+use packet_file::{FileFault, Header, IDENTIFIER_LEN, next_packet, read_header};
+use sparse_rows::Code;
 use std::alloc::Global;
-
-// The identifier of a packet: the source block's number in 12 bits, and the ESI in 20.
-const IDENTIFIER_LEN: usize = 4;
-
-// How many packets a file has at most.
-const MOST_PACKETS: u32 = 16_777_216;
 
 /// A packet file that was read whole.
 #[derive(Drop)]
 pub struct Received {
-    pub header: FileHeader,
-    /// The decoder of the object's block. None where the object has no bytes.
-    pub decoder: Option<Core>,
+    pub header: Header,
+    /// The decoders of the blocks.
+    pub cores: Vec<Core>,
     /// How many packets came, repeats among them.
-    pub packets: u32,
+    pub packets: u64,
 }
 
-/// Receives the packet file that the input is. One packet is in memory at a time, beside the
-/// decoder. `Unbuilt` where the input is no packet file of this codec with at most one block:
-/// nothing is read behind the header or the packet that shows it.
-pub fn receive<S: Source>(alloc: Global, input: &mut S) -> Result<Received, Status>
-    ensures received { IfOk result (λ r. (arrivals : List Arrival) × IsReceived (S.left input.old) (S.left input.new) r arrivals) }
-    ensures early { IfErr result IsEarly }
-    ensures read { result ≡ Err Status.ReadFault → Rose (S.faults input.old) (S.faults input.new) }
-    ensures memory { result ≡ Err Status.Memory → TakesHeader (S.left input.old) (S.left input.new) }
-    ensures unbuilt { result ≡ Err Status.Unbuilt → ReadsNoFile (S.left input.old) (S.left input.new) }
+/// Receives the packet file that the input is, of at most `most` packets. One packet is in memory at
+/// a time, beside the decoders. Where the input is no such file nothing is read behind the header or
+/// the packet that shows it.
+pub fn receive<S: Source>(
+    alloc: Global,
+    draws: Option<u32>,
+    most: u32,
+    input: &mut S,
+) -> Result<Received, Refusal>
+    ensures received { IfOk result (λ r. (packets : List Packet) × IsReceived draws most (S.left input.old) (S.left input.new) r packets) }
+    ensures refusal { IfErr result (RefusesDecode draws most (S.left input.old) (S.left input.new) (S.faults input.old) (S.faults input.new)) }
+    ensures memory { result ≡ Err Memory → LacksMemory most (S.left input.old) (S.left input.new) }
     ensures taken { TakesSome (S.left input.old) (S.left input.new) }
 {
-    let header = read_header(alloc, input)?;
-    let mut decoder = make_decoder(alloc, &header)?;
-    let packets = receive_packets(alloc, input, &header, &mut decoder)?;
+    let header = read_header(input)?;
+    let mut cores = make_cores(alloc, &header, draws)?;
+    let packets = receive_packets(alloc, input, &header, most, &mut cores)?;
     Ok(Received {
         header,
-        decoder,
+        cores,
         packets,
     })
 }
 
-// Reads the header.
-fn read_header<S: Source>(alloc: Global, input: &mut S) -> Result<FileHeader, Status>
-    ensures fields { IfOk result (λ h. IsFileHeader h.options h.transfer_length) }
-    ensures bytes { IfOk result (λ h. Consumes (S.left input.old) (S.left input.new) (header h.options h.transfer_length)) }
-    ensures early { IfErr result IsEarly }
-    ensures read { result ≡ Err Status.ReadFault → Rose (S.faults input.old) (S.faults input.new) }
-    ensures memory { result ≡ Err Status.Memory → TakesHeader (S.left input.old) (S.left input.new) }
-    ensures unbuilt { result ≡ Err Status.Unbuilt → ReadsNoFile (S.left input.old) (S.left input.new) }
-    ensures taken { OnErr result (TakesSome (S.left input.old) (S.left input.new)) }
-    ensures later { S.faults input.old ≤ S.faults input.new }
+// The decoders of the file's blocks, at which nothing has arrived.
+fn make_cores(alloc: Global, header: &Header, draws: Option<u32>) -> Result<Vec<Core>, Refusal>
+    ensures decoders { IfOk result (λ cores. AreDecoders header.now draws cores.items) }
+    ensures sized { IfOk result (λ cores. AreSized header.now cores.items) }
+    ensures empty { IfOk result (λ cores. StandForAll [] cores.items) }
+    ensures matrices { OnOk result ((b : ℕ) → b < length (source_counts header.now) → HasMatrix header.now draws b) }
+    ensures refusal { IfErr result (RefusesCodes header.now draws) }
 {
-    let mut bytes = [0u8; HEADER_LEN];
-    match read_full(input, &mut bytes) {
-        Ok(HEADER_LEN) => {}
-        Ok(_) => return Err(Status::Unbuilt),
-        Err(ReadFailed) => return Err(Status::ReadFault),
+    let codes = build_codes(alloc, header, draws)?;
+    let mut cores = Vec::with_capacity(alloc, header.plan().count() as usize)?;
+    for block in 0..header.plan().count() {
+        cores.push(make_core(alloc, header, &codes, block)?)?;
     }
-    match parse_header(alloc, &bytes) {
-        Ok(Some(header)) => Ok(header),
-        Ok(None) => Err(Status::Unbuilt),
-        Err(NoMemory) => Err(Status::Memory),
-    }
+    Ok(cores)
 }
 
-// A decoder of the object's block, at which nothing has arrived. None where the object has no bytes.
-fn make_decoder(alloc: Global, header: &FileHeader) -> Result<Option<Core>, Status>
-    requires { IsFileHeader header.now.options header.now.transfer_length }
-    ensures decoder { IfOk result (IsFor header.now.options header.now.transfer_length) }
-    ensures empty { IfOk result (StandsForAll []) }
-    ensures memory { OnErr result (result ≡ Err Status.Memory) }
+// The decoder of a block, by its code among these, at which nothing has arrived.
+fn make_core(alloc: Global, header: &Header, codes: &[Code], block: u32) -> Result<Core, NoMemory>
+    requires block { block < length (source_counts header.now) }
+    requires code { HasSize codes.now (count_at header.now block) }
+    ensures matrix { IfOk result (λ core. Contains codes.now core.matrix) }
+    ensures size { IfOk result (λ core. core.matrix.k ≡ count_at header.now block) }
+    ensures len { IfOk result (λ core. core.len ≡ header.now.oti.symbol) }
+    ensures stands { IfOk result (λ core. StandsFor core []) }
 {
-    if header.transfer_length == 0 {
-        return Ok(None);
-    }
-    let EncodeOptions { width, symbol, .. } = header.options;
-    let k = header.transfer_length.div_ceil(symbol as u64) as u32;
-    let Ok(code) = parity_2d(alloc, k, width) else {
-        return Err(Status::Memory);
-    };
-    match Core::new(alloc, code, symbol) {
-        Ok(core) => Ok(Some(core)),
-        Err(_) => Err(Status::Memory),
+    let code = find_code(codes, header.source_count(block)).copy(alloc)?;
+    match Core::new(alloc, code, header.symbol_len()) {
+        Ok(core) => Ok(core),
+        Err(_) => Err(NoMemory),
     }
 }
 
@@ -102,82 +89,73 @@ fn make_decoder(alloc: Global, header: &FileHeader) -> Result<Option<Core>, Stat
 fn receive_packets<S: Source>(
     alloc: Global,
     input: &mut S,
-    header: &FileHeader,
-    decoder: &mut Option<Core>,
-) -> Result<u32, Status>
-    requires header { IsFileHeader header.now.options header.now.transfer_length }
-    requires decoder { IsFor header.now.options header.now.transfer_length decoder.old }
-    ensures kept { IsFor header.now.options header.now.transfer_length decoder.new }
-    ensures packets { IfOk result (λ count. (arrivals : List Arrival) × ReadsPackets (S.left input.old) (S.left input.new) header.now.options header.now.transfer_length decoder.old decoder.new count arrivals) }
-    ensures early { IfErr result IsEarly }
-    ensures read { result ≡ Err Status.ReadFault → Rose (S.faults input.old) (S.faults input.new) }
-    ensures memory { result ≡ Err Status.Memory → Consumes (S.left input.old) (S.left input.new) [] }
-    ensures unbuilt { result ≡ Err Status.Unbuilt → ReadsNoPackets (S.left input.old) (S.left input.new) header.now.options header.now.transfer_length }
+    header: &Header,
+    most: u32,
+    cores: &mut [Core],
+) -> Result<u64, Refusal>
+    requires cores { AreSized header.now cores.old }
+    ensures packets { IfOk result (λ count. (packets : List Packet) × ReadsPackets (S.left input.old) (S.left input.new) header.now most cores.old cores.new count packets) }
+    ensures same { KeepCodes cores.old cores.new }
+    ensures refusal { IfErr result (FailsAtPackets header.now most (S.left input.old) (S.left input.new) (S.faults input.old) (S.faults input.new)) }
     ensures taken { OnErr result (TakesSome (S.left input.old) (S.left input.new)) }
 {
-    let len = IDENTIFIER_LEN + header.options.symbol as usize;
-    let mut piece = match vec![in alloc; 0u8; len] {
-        Ok(piece) => piece,
-        Err(_) => return Err(Status::Memory),
-    };
-    for packets in 0..MOST_PACKETS + 1 {
-        match take_packet(input, header, &mut piece, decoder) {
-            Ok(true) => {}
-            Ok(false) => return Ok(packets),
-            Err(status) => return Err(status),
-        }
-    }
-    Err(Status::Unbuilt)
+    let mut piece = vec![in alloc; 0u8; IDENTIFIER_LEN + header.symbol_len() as usize]?;
+    let count = take_packets(input, header, most, &mut piece, cores)?;
+    Ok(count)
 }
 
-// Takes in the next packet. Says whether there was one.
+// Takes in the packets, each by the same piece. Says how many.
+fn take_packets<S: Source>(
+    input: &mut S,
+    header: &Header,
+    most: u32,
+    piece: &mut [u8],
+    cores: &mut [Core],
+) -> Result<u64, FileFault>
+    requires piece { length piece.old ≡ 4 + header.now.oti.symbol }
+    requires cores { AreSized header.now cores.old }
+    ensures packets { IfOk result (λ count. (packets : List Packet) × ReadsPackets (S.left input.old) (S.left input.new) header.now most cores.old cores.new count packets) }
+    ensures same { KeepCodes cores.old cores.new }
+    ensures fault { IfErr result (λ fault. fault ≢ FileFault.ReadFault → TakesBroken header.now most (S.left input.old) (S.left input.new) fault) }
+    ensures read { result ≡ Err FileFault.ReadFault → Rose (S.faults input.old) (S.faults input.new) }
+    ensures taken { OnErr result (TakesSome (S.left input.old) (S.left input.new)) }
+{
+    let most = most as u64;
+    for index in 0..most + 1 {
+        if !take_packet(input, header, index, most, piece, cores)? {
+            return Ok(index);
+        }
+    }
+    // At the limit a packet more is refused.
+    unreachable!()
+}
+
+// Takes in packet number `index`, of at most `most`. Says whether there was one.
 fn take_packet<S: Source>(
     input: &mut S,
-    header: &FileHeader,
+    header: &Header,
+    index: u64,
+    most: u64,
     piece: &mut [u8],
-    decoder: &mut Option<Core>,
-) -> Result<bool, Status>
-    requires header { IsFileHeader header.now.options header.now.transfer_length }
-    requires piece { length piece.old ≡ 4 + header.now.options.symbol }
-    requires decoder { IsFor header.now.options header.now.transfer_length decoder.old }
-    ensures packet { result ≡ Ok true → (arrival : Arrival) × TakesPackets (S.left input.old) (S.left input.new) header.now.options header.now.transfer_length decoder.old decoder.new (arrival ∷ []) }
-    ensures end { result ≡ Ok false → Consumes (S.left input.old) (S.left input.new) [] × IsAtEnd (S.left input.new) × (decoder.new ≡ decoder.old) }
-    ensures early { IfErr result IsEarly }
-    ensures read { result ≡ Err Status.ReadFault → Rose (S.faults input.old) (S.faults input.new) }
-    ensures memory { result ≢ Err Status.Memory }
-    ensures unbuilt { result ≡ Err Status.Unbuilt → TakesNoPacket (S.left input.old) (S.left input.new) header.now.options header.now.transfer_length }
+    cores: &mut [Core],
+) -> Result<bool, FileFault>
+    requires piece { length piece.old ≡ 4 + header.now.oti.symbol }
+    requires cores { AreSized header.now cores.old }
+    requires index { index ≤ most }
+    ensures packet { result ≡ Ok true → (packet : Packet) × TakesPackets (S.left input.old) (S.left input.new) header.now cores.old cores.new (packet ∷ []) }
+    ensures within { result ≡ Ok true → index < most }
+    ensures end { result ≡ Ok false → Consumes (S.left input.old) (S.left input.new) [] × IsAtEnd (S.left input.new) × (cores.new ≡ cores.old) }
+    ensures same { KeepCodes cores.old cores.new }
+    ensures fault { IfErr result (λ fault. fault ≢ FileFault.ReadFault → FailsAtPacket fault header.now index most (S.left input.old) (S.left input.new)) }
+    ensures read { result ≡ Err FileFault.ReadFault → Rose (S.faults input.old) (S.faults input.new) }
     ensures taken { OnErr result (TakesSome (S.left input.old) (S.left input.new)) }
-    ensures kept { IsFor header.now.options header.now.transfer_length decoder.new }
     ensures length { length piece.new ≡ length piece.old }
     ensures later { S.faults input.old ≤ S.faults input.new }
 {
-    match read_full(input, piece) {
-        Ok(0) => return Ok(false),
-        Ok(taken) if taken < piece.len() => return Err(Status::Unbuilt),
-        Ok(_) => {}
-        Err(ReadFailed) => return Err(Status::ReadFault),
-    }
-    take_piece(header, piece, decoder)?;
+    let Some(id) = next_packet(input, header, index, most, piece)? else {
+        return Ok(false);
+    };
+    let symbol = &piece[IDENTIFIER_LEN..];
+    cores[id.sbn as usize].arrive(id.esi, symbol, &mut Steps::<Tally>::start());
     Ok(true)
-}
-
-// Takes in a piece that is as long as a packet. `Unbuilt` where it is no packet of the file.
-fn take_piece(header: &FileHeader, piece: &[u8], decoder: &mut Option<Core>) -> Result<(), Status>
-    requires header { IsFileHeader header.now.options header.now.transfer_length }
-    requires piece { length piece.now ≡ 4 + header.now.options.symbol }
-    requires decoder { IsFor header.now.options header.now.transfer_length decoder.old }
-    ensures packet { OnOk result ((arrival : Arrival) × TakesPiece header.now.options header.now.transfer_length decoder.old decoder.new piece.now arrival) }
-    ensures none { OnErr result ((a : Arrival) → IsPacketOf header.now.options header.now.transfer_length a → piece.now ≢ packet 0 a.0 a.1) }
-    ensures unbuilt { OnErr result (result ≡ Err Status.Unbuilt) }
-    ensures kept { IsFor header.now.options header.now.transfer_length decoder.new }
-{
-    // The first source block has the number 0, so an identifier of its packets is the ESI.
-    let esi = BigEndian::read_u32(piece);
-    match decoder {
-        Some(core) if esi < core.code().n() => {
-            core.arrive(esi, &piece[IDENTIFIER_LEN..], &mut Steps::<Tally>::start());
-            Ok(())
-        }
-        _ => Err(Status::Unbuilt),
-    }
 }

@@ -1,28 +1,26 @@
 // The top call.
-ghost use Rattle.std.specs.Prelude.{◌≡◌, ◌≢◌, ◌⊎◌, ℕ, List, [], IfOk, IfErr};
+ghost use Rattle.std.specs.Prelude.{◌≡◌, ◌≢◌, ◌⊎◌, ℕ, List, Option};
 ghost use Rattle.std.specs.Io.KnownBytes.{Appends, Keeps};
-ghost use Rattle.fec_base.specs.Causes.{Rose};
-ghost use Rattle.eperftool.specs.Command.{Means, IsInLimits, decode_words};
-ghost use Rattle.eperftool.specs.Decoded.{Decodes, LacksMemory};
-ghost use Rattle.eperftool.specs.Made.{IsReady, made_file};
-ghost use Rattle.eperftool.specs.Run.{EncodesBy, GoesOn, Makes, IsCut, IsUnbuilt, IsTold, TakesSome};
-ghost use Rattle.eperftool.specs.Status.{fault_text, IsEarly};
+ghost use Rattle.tool_base.specs.Status.{fault_text};
+ghost use Rattle.eperftool.specs.Decoded.{Decodes, outcome_status};
+ghost use Rattle.eperftool.specs.Refused.{IsRefused, refusal_status, refusal_text};
+ghost use Rattle.eperftool.specs.Run.{AsksDecode, EndsForMemory, IsCut, IsTold, IsUnbuilt, IsUsage, Makes, Refuses, TakesSome};
+ghost use Rattle.eperftool.specs.declared.outcome.BlockOutcome.{BlockOutcome};
+ghost use Rattle.eperftool.specs.declared.refusal.Refusal.{Refusal};
 
-use crate::decode::{BlockOutcome, decode};
-use crate::encode::{Made, make_file, write_file};
-use crate::object::{ObjectFault, read_object};
-use crate::{Command, EncodeOptions, Ended, Status, conclude, read_words, tell};
+use crate::{EncodeOptions, Ended, Refusal, decode, encode, is_later, refuse, tell};
 use fec_base::{NoMemory, Sink, Source, Watch, Words};
 use std::alloc::Global;
+use tool_base::{Command, Status, read_words};
 
 /// Runs a command: the words say which, the input is read, the output and the report are written,
 /// and the watch comes back as it was.
 ///
-/// Today the commands are `encode --codec=2d --width=W --block=B --symbol=E`, in these words and
-/// this order, and `decode` (docs/COMMANDS.md). At `Done` the output is the packet file of the whole
-/// input, or the object that the packets of the input determine, and the report its counts. At
-/// `WriteFault` the output has a front of that, or the whole of it where the report alone failed. At
-/// every other status nothing was written to the output.
+/// Today the commands are `encode` and `decode` without `--early=yes` (docs/COMMANDS.md). At `Done`
+/// the output is the packet file of the whole input, or the object that the packets of the input
+/// determine, and the report its counts. At `WriteFault` the output has a front of that, or the whole
+/// of it where the report alone failed. An `encode` that ends for want of memory may have written a
+/// part of the file, from its front on. At every other status nothing was written to the output.
 pub fn run<S: Source, K: Sink, R: Sink>(
     alloc: Global,
     words: &Words,
@@ -44,31 +42,35 @@ pub fn run<S: Source, K: Sink, R: Sink>(
     ensures cut { result.status ≡ Status.WriteFault → (made : List ℕ) × (text : List ℕ) × Makes words.now (S.left input.old) (S.left input.new) made text
         × IsCut made text (K.held output.old) (K.held output.new) (K.faults output.old) (K.faults output.new) (R.held report.old) (R.held report.new) (R.faults report.old) (R.faults report.new) }
 
-    // NoCodeword and Stuck: a decode whose packets contradict one another, or else leave a source symbol open.
-    ensures no_codeword { result.status ≡ Status.NoCodeword → (words.now ≡ decode_words) × (text : List ℕ) × Decodes (S.left input.old) (S.left input.new) BlockOutcome.Contradicted [] text
-        × Keeps (K.held output.old) (K.held output.new) × IsTold text (R.held report.old) (R.held report.new) (R.faults report.old) (R.faults report.new) }
-    ensures stuck { result.status ≡ Status.Stuck → (words.now ≡ decode_words) × (text : List ℕ) × Decodes (S.left input.old) (S.left input.new) BlockOutcome.Stuck [] text
-        × Keeps (K.held output.old) (K.held output.new) × IsTold text (R.held report.old) (R.held report.new) (R.faults report.old) (R.faults report.new) }
+    // NoCodeword and Stuck: a decode some of whose blocks have packets that contradict one another, or else leave a source symbol open.
+    ensures undecided { (result.status ≡ Status.NoCodeword) ⊎ (result.status ≡ Status.Stuck) → (draws : Option ℕ) × (most : ℕ) × AsksDecode words.now draws most
+        × (outcomes : List BlockOutcome) × (object : List ℕ) × (text : List ℕ) × (outcome_status outcomes ≡ result.status)
+        × Decodes draws most (S.left input.old) (S.left input.new) outcomes object text
+        × IsTold text (R.held report.old) (R.held report.new) (R.faults report.old) (R.faults report.new) }
+
+    // ReadFault, Malformed, Draws, Limit: the first of the command's refusals, and the report names it.
+    ensures refused { IsRefused result.status → result.status ≢ Status.Memory → (refusal : Refusal) × (result.status ≡ refusal_status refusal)
+        × Refuses words.now (S.left input.old) (S.left input.new) (S.faults input.old) (S.faults input.new) refusal
+        × IsTold (refusal_text refusal) (R.held report.old) (R.held report.new) (R.faults report.old) (R.faults report.new) }
 
     // Memory: a decode asks for none while packets come.
-    ensures memory { result.status ≡ Status.Memory → words.now ≡ decode_words → LacksMemory (S.left input.old) (S.left input.new) }
+    ensures memory { result.status ≡ Status.Memory → EndsForMemory words.now (S.left input.old) (S.left input.new) (K.held output.old) (K.held output.new)
+        × IsTold (fault_text result.status) (R.held report.old) (R.held report.new) (R.faults report.old) (R.faults report.new) }
 
-    // ReadFault: only where the input's count rose.
-    ensures read { result.status ≡ Status.ReadFault → Rose (S.faults input.old) (S.faults input.new) }
+    // Usage and Unbuilt: by the words alone, and nothing is read.
+    ensures usage { result.status ≡ Status.Usage → IsUsage words.now }
+    ensures unbuilt { result.status ≡ Status.Unbuilt → IsUnbuilt words.now }
+    ensures unread { (result.status ≡ Status.Usage) ⊎ (result.status ≡ Status.Unbuilt) → (input.new ≡ input.old)
+        × IsTold (fault_text result.status) (R.held report.old) (R.held report.new) (R.faults report.old) (R.faults report.new) }
 
-    // Unbuilt: words that ask for nothing, of which nothing is read, and inputs that aren't what the words ask for.
-    ensures unbuilt { result.status ≡ Status.Unbuilt → IsUnbuilt words.now (S.left input.old) (S.left input.new) }
-    ensures unasked { ((c : Command) → ¬ Means words.now c) → (result.status ≡ Status.Unbuilt) × (input.new ≡ input.old) × (output.new ≡ output.old) }
-
-    // Before the output nothing is written to it, and the report is the text of the status.
-    ensures early { IsEarly result.status → Keeps (K.held output.old) (K.held output.new) × IsTold (fault_text result.status) (R.held report.old) (R.held report.new) (R.faults report.old) (R.faults report.new) }
+    ensures unwritten { result.status ≢ Status.Done → result.status ≢ Status.WriteFault → result.status ≢ Status.Memory → Keeps (K.held output.old) (K.held output.new) }
     ensures taken { TakesSome (S.left input.old) (S.left input.new) }
 {
     let status = run_words(alloc, words, input, output, report);
     Ended { status, watch }
 }
 
-// The run but for the watch.
+// Runs the command that the words mean.
 fn run_words<S: Source, K: Sink, R: Sink>(
     alloc: Global,
     words: &Words,
@@ -80,95 +82,49 @@ fn run_words<S: Source, K: Sink, R: Sink>(
         × Appends (K.held output.old) (K.held output.new) made × Appends (R.held report.old) (R.held report.new) text }
     ensures cut { result ≡ Status.WriteFault → (made : List ℕ) × (text : List ℕ) × Makes words.now (S.left input.old) (S.left input.new) made text
         × IsCut made text (K.held output.old) (K.held output.new) (K.faults output.old) (K.faults output.new) (R.held report.old) (R.held report.new) (R.faults report.old) (R.faults report.new) }
-    ensures no_codeword { result ≡ Status.NoCodeword → (words.now ≡ decode_words) × (text : List ℕ) × Decodes (S.left input.old) (S.left input.new) BlockOutcome.Contradicted [] text
-        × Keeps (K.held output.old) (K.held output.new) × IsTold text (R.held report.old) (R.held report.new) (R.faults report.old) (R.faults report.new) }
-    ensures stuck { result ≡ Status.Stuck → (words.now ≡ decode_words) × (text : List ℕ) × Decodes (S.left input.old) (S.left input.new) BlockOutcome.Stuck [] text
-        × Keeps (K.held output.old) (K.held output.new) × IsTold text (R.held report.old) (R.held report.new) (R.faults report.old) (R.faults report.new) }
-    ensures memory { result ≡ Status.Memory → words.now ≡ decode_words → LacksMemory (S.left input.old) (S.left input.new) }
-    ensures read { result ≡ Status.ReadFault → Rose (S.faults input.old) (S.faults input.new) }
-    ensures unbuilt { result ≡ Status.Unbuilt → IsUnbuilt words.now (S.left input.old) (S.left input.new) }
-    ensures unasked { ((c : Command) → ¬ Means words.now c) → (result ≡ Status.Unbuilt) × (input.new ≡ input.old) × (output.new ≡ output.old) }
-    ensures early { IsEarly result → Keeps (K.held output.old) (K.held output.new) × IsTold (fault_text result) (R.held report.old) (R.held report.new) (R.faults report.old) (R.faults report.new) }
+    ensures undecided { (result ≡ Status.NoCodeword) ⊎ (result ≡ Status.Stuck) → (draws : Option ℕ) × (most : ℕ) × AsksDecode words.now draws most
+        × (outcomes : List BlockOutcome) × (object : List ℕ) × (text : List ℕ) × (outcome_status outcomes ≡ result)
+        × Decodes draws most (S.left input.old) (S.left input.new) outcomes object text
+        × IsTold text (R.held report.old) (R.held report.new) (R.faults report.old) (R.faults report.new) }
+    ensures refused { IsRefused result → result ≢ Status.Memory → (refusal : Refusal) × (result ≡ refusal_status refusal)
+        × Refuses words.now (S.left input.old) (S.left input.new) (S.faults input.old) (S.faults input.new) refusal
+        × IsTold (refusal_text refusal) (R.held report.old) (R.held report.new) (R.faults report.old) (R.faults report.new) }
+    ensures memory { result ≡ Status.Memory → EndsForMemory words.now (S.left input.old) (S.left input.new) (K.held output.old) (K.held output.new)
+        × IsTold (fault_text result) (R.held report.old) (R.held report.new) (R.faults report.old) (R.faults report.new) }
+    ensures usage { result ≡ Status.Usage → IsUsage words.now }
+    ensures unbuilt { result ≡ Status.Unbuilt → IsUnbuilt words.now }
+    ensures unread { (result ≡ Status.Usage) ⊎ (result ≡ Status.Unbuilt) → (input.new ≡ input.old)
+        × IsTold (fault_text result) (R.held report.old) (R.held report.new) (R.faults report.old) (R.faults report.new) }
+    ensures unwritten { result ≢ Status.Done → result ≢ Status.WriteFault → result ≢ Status.Memory → Keeps (K.held output.old) (K.held output.new) }
     ensures taken { TakesSome (S.left input.old) (S.left input.new) }
 {
-    match read_words(words) {
-        Some(Command::Encode(options)) => encode(alloc, &options, input, output, report),
-        Some(Command::Decode) => decode(alloc, input, output, report),
-        None => {
-            tell(report, Status::Unbuilt.fault_text().as_bytes());
-            Status::Unbuilt
+    if is_later(words) {
+        return tell(report, Status::Unbuilt);
+    }
+    match read_words(alloc, words) {
+        Err(NoMemory) => refuse(report, Refusal::Memory),
+        Ok(None) => tell(report, Status::Usage),
+        Ok(
+            Some(
+                Command::Encode {
+                    shape,
+                    symbol,
+                    block,
+                    max_n,
+                },
+            ),
+        ) => {
+            let options = EncodeOptions {
+                shape,
+                symbol,
+                block,
+                max_n,
+            };
+            encode(alloc, &options, input, output, report)
+        }
+        Ok(Some(Command::Decode { early: true, .. })) => tell(report, Status::Unbuilt),
+        Ok(Some(Command::Decode { draws, packets, .. })) => {
+            decode(alloc, draws, packets, input, output, report)
         }
     }
-}
-
-// Encodes the input.
-fn encode<S: Source, K: Sink, R: Sink>(
-    alloc: Global,
-    options: &EncodeOptions,
-    input: &mut S,
-    output: &mut K,
-    report: &mut R,
-) -> Status
-    requires { IsInLimits options.now }
-    ensures done { result ≡ Status.Done → (file : List ℕ) × (text : List ℕ) × EncodesBy options.now (S.left input.old) (S.left input.new) file text
-        × Appends (K.held output.old) (K.held output.new) file × Appends (R.held report.old) (R.held report.new) text }
-    ensures cut { result ≡ Status.WriteFault → (file : List ℕ) × (text : List ℕ) × EncodesBy options.now (S.left input.old) (S.left input.new) file text
-        × IsCut file text (K.held output.old) (K.held output.new) (K.faults output.old) (K.faults output.new) (R.held report.old) (R.held report.new) (R.faults report.old) (R.faults report.new) }
-    ensures read { result ≡ Status.ReadFault → Rose (S.faults input.old) (S.faults input.new) }
-    ensures unbuilt { result ≡ Status.Unbuilt → GoesOn options.now (S.left input.old) (S.left input.new) }
-    ensures early { IsEarly result → Keeps (K.held output.old) (K.held output.new) × IsTold (fault_text result) (R.held report.old) (R.held report.new) (R.faults report.old) (R.faults report.new) }
-    ensures ends { (result ≢ Status.NoCodeword) × (result ≢ Status.Stuck) }
-    ensures taken { TakesSome (S.left input.old) (S.left input.new) }
-{
-    match read_and_make(alloc, options, input) {
-        Ok(made) => deliver(made, output, report),
-        Err(status) => {
-            tell(report, status.fault_text().as_bytes());
-            status
-        }
-    }
-}
-
-// Reads the input and makes its packet file ready, or says how the run ends.
-fn read_and_make<S: Source>(
-    alloc: Global,
-    options: &EncodeOptions,
-    input: &mut S,
-) -> Result<Made, Status>
-    requires { IsInLimits options.now }
-    ensures made { IfOk result (λ made. EncodesBy options.now (S.left input.old) (S.left input.new) (made_file made) made.report.items) }
-    ensures ready { IfOk result IsReady }
-    ensures early { IfErr result IsEarly }
-    ensures read { result ≡ Err Status.ReadFault → Rose (S.faults input.old) (S.faults input.new) }
-    ensures unbuilt { result ≡ Err Status.Unbuilt → GoesOn options.now (S.left input.old) (S.left input.new) }
-    ensures taken { TakesSome (S.left input.old) (S.left input.new) }
-{
-    let most = options.block as usize * options.symbol as usize;
-    let object = match read_object(alloc, input, most) {
-        Ok(object) => object,
-        Err(ObjectFault::Memory) => return Err(Status::Memory),
-        Err(ObjectFault::Read) => return Err(Status::ReadFault),
-        Err(ObjectFault::TooLong) => return Err(Status::Unbuilt),
-    };
-    match make_file(alloc, options, object) {
-        Ok(made) => Ok(made),
-        Err(NoMemory) => Err(Status::Memory),
-    }
-}
-
-// Writes the packet file and then the report.
-fn deliver<K: Sink, R: Sink>(made: Made, output: &mut K, report: &mut R) -> Status
-    requires { IsReady made }
-    ensures done { result ≡ Status.Done → Appends (K.held output.old) (K.held output.new) (made_file made) × Appends (R.held report.old) (R.held report.new) made.report.items }
-    ensures cut { result ≡ Status.WriteFault → IsCut (made_file made) made.report.items (K.held output.old) (K.held output.new) (K.faults output.old) (K.faults output.new) (R.held report.old) (R.held report.new) (R.faults report.old) (R.faults report.new) }
-    ensures ends { (result ≡ Status.Done) ⊎ (result ≡ Status.WriteFault) }
-{
-    let Made {
-        header,
-        blocks,
-        report: text,
-        mut staging,
-    } = made;
-    let written = write_file(&mut staging, output, &header, &blocks);
-    conclude(written, report, &text)
 }

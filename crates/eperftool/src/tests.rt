@@ -1,15 +1,32 @@
-use crate::{Status, run};
+use crate::run;
 use fec_base::{MemSink, MemSource, QuietWatch, Watch, Words};
 use std::alloc::Global;
+use std::process::Abort;
 use std::test::Fail;
+use tool_base::Status;
 
-const ENCODE: [&str; 5] = [
+mod damaged;
+mod faults;
+
+const THREE_OF_SEVEN: [&str; 4] = ["encode", "--symbol=1", "--block=3", "--max-n=7"];
+
+const GRID: [&str; 5] = [
     "encode",
     "--codec=2d",
     "--width=3",
     "--block=5",
     "--symbol=1",
 ];
+
+// The file of 01 02 04 in a staircase of three source symbols and seven encoding symbols.
+const STAIRCASE_FILE: [u8; 61] =
+    *b"OFPK\x01\x03\0\0\0\0\0\0\0\x03\0\x01\x01\0\0\x30\0\x07\0\0\0\x01\
+    \0\0\0\0\x01\0\0\0\x01\x02\0\0\0\x02\x04\0\0\0\x03\x05\0\0\0\x04\x03\0\0\0\x05\x04\0\0\0\x06\x07";
+
+// The file of 01 02 04 08 10 in a grid of width 3.
+const GRID_FILE: [u8; 76] = *b"OFPK\x01\xc8\0\0\0\0\0\0\0\x05\0\x01\x01\0\0\x50\0\x0a\0\0\0\x03\
+    \0\0\0\0\x01\0\0\0\x01\x02\0\0\0\x02\x04\0\0\0\x03\x08\0\0\0\x04\x10\
+    \0\0\0\x05\x07\0\0\0\x06\x18\0\0\0\x07\x09\0\0\0\x08\x12\0\0\0\x09\x04";
 
 // What a run left.
 #[derive(Drop)]
@@ -32,8 +49,8 @@ fn run_over(
     for word in words {
         all.push(word)?;
     }
-    let mut input = MemSource::new(alloc, bytes, 2, stop)?;
-    let mut output = MemSink::new(alloc, room, 7)?;
+    let mut input = MemSource::new(alloc, bytes, 200, stop)?;
+    let mut output = MemSink::new(alloc, room, 70)?;
     let mut report = MemSink::new(alloc, report_room, 1)?;
     let watch: Box<dyn Watch> = Box::new(alloc, QuietWatch)?;
     let ended = run(alloc, &all, &mut input, &mut output, &mut report, watch);
@@ -44,261 +61,402 @@ fn run_over(
     })
 }
 
-const OBJECT: [u8; 5] = [1, 2, 4, 8, 16];
+// A run of the words over the input ends so.
+fn check(
+    rt: &impl Abort,
+    alloc: Global,
+    words: &[&str],
+    input: &[u8],
+    status: Status,
+    output: &[u8],
+    report: &str,
+) -> Result<(), Fail> {
+    let left = run_over(alloc, words, input, None, 20_000, 200)?;
+    assert_eq!(rt; left.report.bytes(), report.as_bytes());
+    assert_eq!(rt; left.status, status);
+    assert_eq!(rt; left.output.bytes(), output);
+    Ok(())
+}
 
-const WORD: [u8; 10] = [1, 2, 4, 8, 16, 7, 0x18, 9, 0x12, 4];
-
-const REPORT: &str = "blocks 1\npackets 10\n";
-
-// The packet file of an object of `len` bytes, by its codeword, whose symbols are bytes.
-fn packet_file(alloc: Global, len: u8, word: &[u8]) -> Result<Vec<u8>, Fail> {
-    let mut file = Vec::from_slice(alloc, b"OFPK\x01\xc8\0\0\0\0\0\0\0")?;
-    file.push(len)?;
-    file.extend_from_slice(&[0, 1, 1, 0, 0, 0x50, 0, 0x0a, 0, 0, 0, 3])?;
+// The packet file that the words make of the input has one block whose symbols are these bytes, and
+// decodes to the input again.
+fn check_word(
+    rt: &impl Abort,
+    alloc: Global,
+    words: &[&str],
+    input: &[u8],
+    word: &[u8],
+) -> Result<(), Fail> {
+    let left = run_over(alloc, words, input, None, 2000, 200)?;
+    assert_eq!(rt; left.status, Status::Done);
+    let file = left.output.bytes();
+    assert!(rt; word.len() < 100);
+    assert_eq!(rt; file.len(), 26 + 5 * word.len());
     for (esi, symbol) in word.iter().enumerate() {
-        file.extend_from_slice(&[0, 0, 0, (esi & 0xff) as u8, *symbol])?;
+        assert_eq!(rt; file[26 + 5 * esi + 3] as usize, esi);
+        assert_eq!(rt; file[26 + 5 * esi + 4], *symbol);
     }
-    Ok(file)
+    let decoded = run_over(alloc, &["decode"], file, None, 2000, 200)?;
+    assert_eq!(rt; decoded.status, Status::Done);
+    assert_eq!(rt; decoded.output.bytes(), input);
+    Ok(())
 }
 
 #[test]
-fn writes_the_codeword_of_the_input(rt: HostRuntime) -> Result<(), Fail> {
-    let cases: [(&[u8], &[u8], &str); 3] = [
-        (&OBJECT, &WORD, REPORT),
-        (&[1, 2, 4], &[1, 2, 4, 7, 1, 2, 4], "blocks 1\npackets 7\n"),
-        (&[], &[], "blocks 0\npackets 0\n"),
+fn a_staircase_of_three_and_four(rt: HostRuntime) -> Result<(), Fail> {
+    let report = "blocks 1\npackets 7\n";
+    let done = Status::Done;
+    check(
+        &rt,
+        rt.alloc(),
+        &THREE_OF_SEVEN,
+        &[1, 2, 4],
+        done,
+        &STAIRCASE_FILE,
+        report,
+    )?;
+    let in_two_words = ["encode", "--symbol", "1", "--block", "3", "--max-n", "7"];
+    check(
+        &rt,
+        rt.alloc(),
+        &in_two_words,
+        &[1, 2, 4],
+        done,
+        &STAIRCASE_FILE,
+        report,
+    )?;
+    let named = [
+        "encode",
+        "--codec=staircase",
+        "--n1=3",
+        "--seed=1",
+        "--block=3",
+        "--max-n=7",
+        "--symbol=1",
     ];
-    for (object, word, text) in cases {
-        let left = run_over(rt.alloc(), &ENCODE, object, None, 200, 100)?;
-        let file = packet_file(rt.alloc(), (object.len() & 0xff) as u8, word)?;
+    check(
+        &rt,
+        rt.alloc(),
+        &named,
+        &[1, 2, 4],
+        done,
+        &STAIRCASE_FILE,
+        report,
+    )?;
+    let peeled = "block 0 peeled\npackets 7\n";
+    check(
+        &rt,
+        rt.alloc(),
+        &["decode"],
+        &STAIRCASE_FILE,
+        done,
+        &[1, 2, 4],
+        peeled,
+    )?;
+    Ok(())
+}
+
+#[test]
+fn a_draw_less_than_a_code_takes_is_refused(rt: HostRuntime) -> Result<(), Fail> {
+    let alloc = rt.alloc();
+    let fault = "fault: draws block 0\n";
+    let [encode, symbol, block, max_n] = THREE_OF_SEVEN;
+    let cases = [("staircase", "11", "12"), ("triangle", "13", "14")];
+    for (codec, few, enough) in cases {
+        let words = [
+            encode, symbol, block, max_n, "--codec", codec, "--draws", few,
+        ];
+        check(
+            &rt,
+            rt.alloc(),
+            &words,
+            &[1, 2, 4],
+            Status::Draws,
+            &[],
+            fault,
+        )?;
+        let words = [
+            encode, symbol, block, max_n, "--codec", codec, "--draws", enough,
+        ];
+        let left = run_over(alloc, &words, &[1, 2, 4], None, 200, 100)?;
         assert_eq!(rt; left.status, Status::Done);
-        assert_eq!(rt; left.output.bytes(), file.as_slice());
-        assert_eq!(rt; left.report.bytes(), text.as_bytes());
+        let file = left.output.bytes();
+        check(
+            &rt,
+            rt.alloc(),
+            &["decode", "--draws", few],
+            file,
+            Status::Draws,
+            &[],
+            fault,
+        )?;
+        let peeled = "block 0 peeled\npackets 7\n";
+        check(
+            &rt,
+            rt.alloc(),
+            &["decode", "--draws", enough],
+            file,
+            Status::Done,
+            &[1, 2, 4],
+            peeled,
+        )?;
     }
     Ok(())
 }
 
 #[test]
-fn refuses_one_byte_more_than_a_block(rt: HostRuntime) -> Result<(), Fail> {
-    let left = run_over(rt.alloc(), &ENCODE, b"012345", None, 200, 100)?;
-    assert_eq!(rt; left.status, Status::Unbuilt);
-    assert_eq!(rt; left.output.bytes().len(), 0);
-    assert_eq!(rt; left.report.bytes(), b"fault: unbuilt\n".as_slice());
+fn small_codewords(rt: HostRuntime) -> Result<(), Fail> {
+    let [encode, symbol, block, max_n] = THREE_OF_SEVEN;
+    let triangle = [encode, "--codec=triangle", symbol, block, max_n];
+    check_word(
+        &rt,
+        rt.alloc(),
+        &triangle,
+        &[1, 2, 4],
+        &[1, 2, 4, 5, 3, 1, 7],
+    )?;
+    let full = [encode, symbol, "--block=4", max_n];
+    check_word(
+        &rt,
+        rt.alloc(),
+        &full,
+        &[1, 2, 4, 8],
+        &[1, 2, 4, 8, 0x0f, 0, 0x0f],
+    )?;
+    let single = [encode, symbol, "--block=1", "--max-n=5"];
+    check_word(&rt, rt.alloc(), &single, &[5], &[5, 5, 0, 5, 0])?;
+    check_word(&rt, rt.alloc(), &GRID, &[1, 2, 4], &[1, 2, 4, 7, 1, 2, 4])?;
     Ok(())
 }
 
 #[test]
-fn reads_nothing_for_other_words(rt: HostRuntime) -> Result<(), Fail> {
-    let [command, codec, width, block, symbol] = ENCODE;
-    let cases: [&[&str]; 12] = [
+fn the_codec_stands_in_the_header(rt: HostRuntime) -> Result<(), Fail> {
+    let [encode, symbol, block, max_n] = THREE_OF_SEVEN;
+    for (codec, number) in [("staircase", 3), ("triangle", 4)] {
+        let words = [encode, symbol, block, max_n, "--codec", codec];
+        let left = run_over(rt.alloc(), &words, &[1, 2, 4], None, 200, 100)?;
+        assert!(rt; left.output.bytes().len() == 61);
+        assert_eq!(rt; left.output.bytes()[5], number);
+    }
+    Ok(())
+}
+
+#[test]
+fn a_grid_of_width_three(rt: HostRuntime) -> Result<(), Fail> {
+    let object = [1, 2, 4, 8, 16];
+    let report = "blocks 1\npackets 10\n";
+    check(
+        &rt,
+        rt.alloc(),
+        &GRID,
+        &object,
+        Status::Done,
+        &GRID_FILE,
+        report,
+    )?;
+    let peeled = "block 0 peeled\npackets 10\n";
+    check(
+        &rt,
+        rt.alloc(),
+        &["decode"],
+        &GRID_FILE,
+        Status::Done,
+        &object,
+        peeled,
+    )?;
+    // A grid draws nothing.
+    check(
+        &rt,
+        rt.alloc(),
+        &["decode", "--draws=0"],
+        &GRID_FILE,
+        Status::Done,
+        &object,
+        peeled,
+    )?;
+    Ok(())
+}
+
+// The defaults: a staircase, symbols of 1,024 bytes, blocks of 1,000 of them and 1,500 with repair.
+const EMPTY_FILE: [u8; 26] = *b"OFPK\x01\x03\0\0\0\0\0\0\0\0\x04\0\x01\0\x3e\x80\x05\xdc\0\0\0\x01";
+
+#[test]
+fn an_object_without_a_byte_has_no_block(rt: HostRuntime) -> Result<(), Fail> {
+    let report = "blocks 0\npackets 0\n";
+    check(
+        &rt,
+        rt.alloc(),
+        &["encode"],
         &[],
-        &["decode", "--draws=5"],
-        &[command, codec, width, block],
-        &[command, codec, width, block, symbol, "--draws=5"],
-        &[command, codec, block, width, symbol],
-        &[command, codec, width, "--block=05", symbol],
-        &[command, codec, "--width=+3", block, symbol],
-        &[command, codec, width, block, "--symbol=0"],
-        &[command, codec, width, block, "--symbol=65536"],
-        &[command, codec, width, "--block=4294967301", symbol],
-        // 65,537 encoding symbols, and more than 268,435,456 bytes of them.
-        &[command, codec, "--width=256", "--block=65026", symbol],
-        &[
-            command,
-            codec,
-            "--width=64",
-            "--block=4064",
-            "--symbol=65535",
-        ],
+        Status::Done,
+        &EMPTY_FILE,
+        report,
+    )?;
+    check(
+        &rt,
+        rt.alloc(),
+        &["encode", "--draws=0"],
+        &[],
+        Status::Done,
+        &EMPTY_FILE,
+        report,
+    )?;
+    check(
+        &rt,
+        rt.alloc(),
+        &["decode"],
+        &EMPTY_FILE,
+        Status::Done,
+        &[],
+        "packets 0\n",
+    )?;
+    let grid = b"OFPK\x01\xc8\0\0\0\0\0\0\0\0\0\x01\x01\0\0\x50\0\x0a\0\0\0\x03";
+    check(&rt, rt.alloc(), &GRID, &[], Status::Done, grid, report)?;
+    // Sizes of a block that alone would pass a limit.
+    let large = ["encode", "--symbol=65535", "--block=65536", "--max-n=65536"];
+    let left = run_over(rt.alloc(), &large, &[], None, 200, 100)?;
+    assert_eq!(rt; left.status, Status::Done);
+    assert_eq!(rt; left.output.bytes().len(), 26);
+    Ok(())
+}
+
+#[test]
+fn an_object_of_one_symbol_has_no_repair_symbol(rt: HostRuntime) -> Result<(), Fail> {
+    let left = run_over(rt.alloc(), &["encode"], b"0123456789", None, 2000, 100)?;
+    assert_eq!(rt; left.status, Status::Done);
+    assert_eq!(rt; left.report.bytes(), b"blocks 1\npackets 1\n".as_slice());
+    let file = left.output.bytes();
+    assert_eq!(rt; file.len(), 1054);
+    assert_eq!(rt; &file[30..40], b"0123456789".as_slice());
+    assert!(rt; file[40..].iter().all(|byte| *byte == 0));
+    let peeled = "block 0 peeled\npackets 1\n";
+    check(
+        &rt,
+        rt.alloc(),
+        &["decode"],
+        file,
+        Status::Done,
+        b"0123456789",
+        peeled,
+    )?;
+    Ok(())
+}
+
+// An object of so many bytes.
+fn counted(alloc: Global, len: u32) -> Result<Vec<u8>, Fail> {
+    let mut object = Vec::new(alloc);
+    for i in 0..len {
+        object.push((i % 251) as u8)?;
+    }
+    Ok(object)
+}
+
+const THREE_BLOCKS: [&str; 4] = ["encode", "--symbol=100", "--block=4", "--max-n=6"];
+
+#[test]
+fn an_object_of_three_blocks(rt: HostRuntime) -> Result<(), Fail> {
+    let alloc = rt.alloc();
+    let object = counted(alloc, 1000)?;
+    let left = run_over(alloc, &THREE_BLOCKS, &object, None, 2000, 100)?;
+    assert_eq!(rt; left.status, Status::Done);
+    assert_eq!(rt; left.report.bytes(), b"blocks 3\npackets 14\n".as_slice());
+    let file = left.output.bytes();
+    assert_eq!(rt; file.len(), 1482);
+    // Six packets of the first block, and four of each other one.
+    assert_eq!(rt; &file[546..550], [0, 0, 0, 5].as_slice());
+    assert_eq!(rt; &file[650..654], [0, 0x10, 0, 0].as_slice());
+    assert_eq!(rt; &file[1378..1382], [0, 0x20, 0, 3].as_slice());
+    let peeled = "block 0 peeled\nblock 1 peeled\nblock 2 peeled\npackets 14\n";
+    check(&rt, alloc, &["decode"], file, Status::Done, &object, peeled)?;
+    Ok(())
+}
+
+// A packet file with packets of 104 bytes, the last one first, without those from one to another.
+fn turned(alloc: Global, file: &[u8], from: usize, to: usize) -> Result<Vec<u8>, Fail> {
+    let mut mixed = Vec::new(alloc);
+    for (i, byte) in file.iter().enumerate() {
+        if i < 26 {
+            mixed.push(*byte)?;
+        }
+    }
+    for packet in 0..14 {
+        let place = 13 - packet;
+        let start = 26 + place * 104;
+        if (place < from || to <= place) && start + 104 <= file.len() {
+            mixed.extend_from_slice(&file[start..start + 104])?;
+        }
+    }
+    Ok(mixed)
+}
+
+#[test]
+fn one_block_of_three_is_stuck(rt: HostRuntime) -> Result<(), Fail> {
+    let alloc = rt.alloc();
+    let object = counted(alloc, 1000)?;
+    let left = run_over(alloc, &THREE_BLOCKS, &object, None, 2000, 100)?;
+    // Two source symbols of the second block are lost.
+    let file = turned(alloc, left.output.bytes(), 6, 8)?;
+    let stuck = "block 0 peeled\nblock 1 stuck\nblock 2 peeled\npackets 12\n";
+    check(&rt, alloc, &["decode"], &file, Status::Stuck, &[], stuck)?;
+    let file = turned(alloc, left.output.bytes(), 14, 14)?;
+    let peeled = "block 0 peeled\nblock 1 peeled\nblock 2 peeled\npackets 14\n";
+    check(
+        &rt,
+        alloc,
+        &["decode"],
+        &file,
+        Status::Done,
+        &object,
+        peeled,
+    )?;
+    Ok(())
+}
+
+#[test]
+fn words_that_mean_no_command_are_usage(rt: HostRuntime) -> Result<(), Fail> {
+    let usage = "fault: usage\n\
+        usage: eperftool encode|decode|lose|show|perf [--name=value ...]\n";
+    let cases: [&[&str]; 15] = [
+        &[],
+        &["pack"],
+        &["encode", "--symbol=0"],
+        &["encode", "--symbol=08"],
+        &["encode", "--seed=1", "--seed=1"],
+        &["encode", "--seed=1", "--seed", "1"],
+        &["encode", "--width=3"],
+        &["encode", "--codec=2d", "--n1=3"],
+        &["encode", "--codec=2d", "--width=256", "--block=65026"],
+        &["encode", "--block=7", "--max-n=6"],
+        &["encode", "--sym=1"],
+        &["encode", "--help"],
+        &["decode", "--"],
+        &["decode", "x"],
+        &["decode", "--early", "--packets=3"],
     ];
     for words in cases {
         // The first read of this input would be a fault.
-        let left = run_over(rt.alloc(), words, &OBJECT, Some(0), 200, 100)?;
+        let left = run_over(rt.alloc(), words, b"01234", Some(0), 200, 200)?;
+        assert_eq!(rt; left.report.bytes(), usage.as_bytes());
+        assert_eq!(rt; left.status, Status::Usage);
+        assert_eq!(rt; left.output.bytes().len(), 0);
+    }
+    Ok(())
+}
+
+#[test]
+fn commands_that_come_later_are_unbuilt(rt: HostRuntime) -> Result<(), Fail> {
+    let cases: [&[&str]; 4] = [
+        &["lose", "--"],
+        &["show"],
+        &["perf", "--k=3", "--k=3"],
+        &["decode", "--early=yes"],
+    ];
+    for words in cases {
+        // The first read of this input would be a fault.
+        let left = run_over(rt.alloc(), words, b"01234", Some(0), 200, 200)?;
+        assert_eq!(rt; left.report.bytes(), b"fault: unbuilt\n".as_slice());
         assert_eq!(rt; left.status, Status::Unbuilt);
         assert_eq!(rt; left.output.bytes().len(), 0);
-        assert_eq!(rt; left.report.bytes(), b"fault: unbuilt\n".as_slice());
-    }
-    Ok(())
-}
-
-#[test]
-fn tells_a_read_that_fails_at_any_byte(rt: HostRuntime) -> Result<(), Fail> {
-    for stop in 0..6 {
-        let left = run_over(rt.alloc(), &ENCODE, &OBJECT, Some(stop), 200, 100)?;
-        assert_eq!(rt; left.status, Status::ReadFault, "at {stop}");
-        assert_eq!(rt; left.output.bytes().len(), 0);
-        assert_eq!(rt; left.report.bytes(), b"fault: read\n".as_slice());
-    }
-    Ok(())
-}
-
-#[test]
-fn tells_a_write_that_fails_at_any_byte(rt: HostRuntime) -> Result<(), Fail> {
-    let file = packet_file(rt.alloc(), 5, &WORD)?;
-    for room in 0..file.len() {
-        let left = run_over(rt.alloc(), &ENCODE, &OBJECT, None, room, 100)?;
-        assert_eq!(rt; left.status, Status::WriteFault, "at {room}");
-        assert_eq!(rt; left.output.bytes(), &file[..room]);
-        assert_eq!(rt; left.report.bytes(), b"fault: write\n".as_slice());
-    }
-    for room in 0..REPORT.len() {
-        let left = run_over(rt.alloc(), &ENCODE, &OBJECT, None, 200, room)?;
-        assert_eq!(rt; left.status, Status::WriteFault, "at {room}");
-        assert_eq!(rt; left.output.bytes(), file.as_slice());
-        assert_eq!(rt; left.report.bytes(), &REPORT.as_bytes()[..room]);
-    }
-    Ok(())
-}
-
-// A packet file of the object with these packets, each an ESI and its symbol, and then some bytes.
-fn received(alloc: Global, packets: &[(u8, u8)], behind: &[u8]) -> Result<Vec<u8>, Fail> {
-    let mut file = packet_file(alloc, 5, &[])?;
-    for (esi, symbol) in packets {
-        file.extend_from_slice(&[0, 0, 0, *esi, *symbol])?;
-    }
-    file.extend_from_slice(behind)?;
-    Ok(file)
-}
-
-const PEELED: &str = "block 0 peeled\npackets 6\n";
-
-const STUCK: &str = "block 0 stuck\npackets 6\n";
-
-const CONTRADICTED: &str = "block 0 contradicted\npackets 2\n";
-
-const UNBUILT: &str = "fault: unbuilt\n";
-
-#[test]
-fn tells_what_the_packets_determine(rt: HostRuntime) -> Result<(), Fail> {
-    let cases: [(&[(u8, u8)], &[u8], Status, &str); 9] = [
-        // Rebuilt from the repair symbols, with a repeat at the end.
-        (
-            &[(9, 4), (7, 9), (4, 16), (5, 7), (0, 1), (0, 1)],
-            b"",
-            Status::Done,
-            PEELED,
-        ),
-        (
-            &[(2, 4), (5, 7), (6, 0x18), (7, 9), (8, 0x12), (9, 4)],
-            b"",
-            Status::Stuck,
-            STUCK,
-        ),
-        (&[], b"", Status::Stuck, "block 0 stuck\npackets 0\n"),
-        (&[(2, 4), (9, 5)], b"", Status::NoCodeword, CONTRADICTED),
-        (&[(9, 5), (2, 4)], b"", Status::NoCodeword, CONTRADICTED),
-        (&[(2, 4), (2, 5)], b"", Status::NoCodeword, CONTRADICTED),
-        // A packet that is cut short, the ESI behind the last one, and a second source block.
-        (&[(0, 1)], b"\0\0", Status::Unbuilt, UNBUILT),
-        (&[(10, 1)], b"", Status::Unbuilt, UNBUILT),
-        (&[(0, 1)], b"\0\x10\0\0\x01", Status::Unbuilt, UNBUILT),
-    ];
-    for (packets, behind, status, text) in cases {
-        let file = received(rt.alloc(), packets, behind)?;
-        let left = run_over(rt.alloc(), &["decode"], &file, None, 200, 100)?;
-        let object: &[u8] = if status == Status::Done { &OBJECT } else { &[] };
-        assert_eq!(rt; left.status, status);
-        assert_eq!(rt; left.output.bytes(), object);
-        assert_eq!(rt; left.report.bytes(), text.as_bytes());
-    }
-    Ok(())
-}
-
-#[test]
-fn gives_back_what_was_encoded(rt: HostRuntime) -> Result<(), Fail> {
-    let file = packet_file(rt.alloc(), 5, &WORD)?;
-    let left = run_over(rt.alloc(), &["decode"], &file, None, 200, 100)?;
-    assert_eq!(rt; left.status, Status::Done);
-    assert_eq!(rt; left.output.bytes(), OBJECT.as_slice());
-    assert_eq!(rt;
-        left.report.bytes(),
-        b"block 0 peeled\npackets 10\n".as_slice()
-    );
-    Ok(())
-}
-
-#[test]
-fn decodes_a_file_without_a_block(rt: HostRuntime) -> Result<(), Fail> {
-    let file = packet_file(rt.alloc(), 0, &[])?;
-    let left = run_over(rt.alloc(), &["decode"], &file, None, 200, 100)?;
-    assert_eq!(rt; left.status, Status::Done);
-    assert_eq!(rt; left.output.bytes().len(), 0);
-    assert_eq!(rt; left.report.bytes(), b"packets 0\n".as_slice());
-    Ok(())
-}
-
-// The bytes with the lowest bit of one of them turned.
-fn flipped(alloc: Global, bytes: &[u8], place: usize) -> Result<Vec<u8>, Fail> {
-    let mut wrong = Vec::new(alloc);
-    for (i, byte) in bytes.iter().enumerate() {
-        wrong.push(if i == place { *byte ^ 1 } else { *byte })?;
-    }
-    Ok(wrong)
-}
-
-#[test]
-fn refuses_a_header_with_a_wrong_byte(rt: HostRuntime) -> Result<(), Fail> {
-    let file = packet_file(rt.alloc(), 5, &[])?;
-    // The magic, the version, the codec, the reserved bytes, a transfer length above the block, the
-    // groups, and the greatest n.
-    for place in [0, 3, 4, 5, 6, 7, 12, 16, 20, 21] {
-        let wrong = flipped(rt.alloc(), &file, place)?;
-        let left = run_over(rt.alloc(), &["decode"], &wrong, None, 200, 100)?;
-        assert_eq!(rt; left.status, Status::Unbuilt, "at {place}");
-        assert_eq!(rt; left.output.bytes().len(), 0);
-        assert_eq!(rt; left.report.bytes(), UNBUILT.as_bytes());
-    }
-    Ok(())
-}
-
-#[test]
-fn refuses_a_header_that_is_cut_short(rt: HostRuntime) -> Result<(), Fail> {
-    let file = packet_file(rt.alloc(), 5, &[])?;
-    for len in 0..file.len() {
-        let left = run_over(rt.alloc(), &["decode"], &file[..len], None, 200, 100)?;
-        assert_eq!(rt; left.status, Status::Unbuilt, "at {len}");
-        assert_eq!(rt; left.report.bytes(), UNBUILT.as_bytes());
-    }
-    Ok(())
-}
-
-#[test]
-fn cuts_the_object_to_its_length(rt: HostRuntime) -> Result<(), Fail> {
-    // Three bytes in symbols of two: the codeword of 01 02 | 04 00 in a grid of width 2.
-    let header = b"OFPK\x01\xc8\0\0\0\0\0\0\0\x03\0\x02\x01\0\0\x20\0\x05\0\0\0\x02";
-    let mut file = Vec::from_slice(rt.alloc(), header)?;
-    // The sum of the row, and the first source symbol.
-    file.extend_from_slice(&[0, 0, 0, 2, 5, 2, 0, 0, 0, 0, 1, 2])?;
-    let left = run_over(rt.alloc(), &["decode"], &file, None, 200, 100)?;
-    assert_eq!(rt; left.status, Status::Done);
-    assert_eq!(rt; left.output.bytes(), b"\x01\x02\x04".as_slice());
-    assert_eq!(rt;
-        left.report.bytes(),
-        b"block 0 peeled\npackets 2\n".as_slice()
-    );
-    Ok(())
-}
-
-#[test]
-fn tells_a_decode_whose_input_fails_at_any_byte(rt: HostRuntime) -> Result<(), Fail> {
-    let file = packet_file(rt.alloc(), 5, &WORD)?;
-    for stop in 0..77 {
-        let left = run_over(rt.alloc(), &["decode"], &file, Some(stop), 200, 100)?;
-        assert_eq!(rt; left.status, Status::ReadFault, "at {stop}");
-        assert_eq!(rt; left.output.bytes().len(), 0);
-        assert_eq!(rt; left.report.bytes(), b"fault: read\n".as_slice());
-    }
-    Ok(())
-}
-
-#[test]
-fn tells_a_decode_whose_output_fails_at_any_byte(rt: HostRuntime) -> Result<(), Fail> {
-    let file = packet_file(rt.alloc(), 5, &WORD)?;
-    for room in 0..OBJECT.len() {
-        let left = run_over(rt.alloc(), &["decode"], &file, None, room, 100)?;
-        assert_eq!(rt; left.status, Status::WriteFault, "at {room}");
-        assert_eq!(rt; left.output.bytes(), &OBJECT[..room]);
-        assert_eq!(rt; left.report.bytes(), b"fault: write\n".as_slice());
     }
     Ok(())
 }

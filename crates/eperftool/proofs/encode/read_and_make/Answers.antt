@@ -1,0 +1,13 @@
+use Rattle.std.proofs.Common.{sym, subst}
+use Rattle.std.proofs.lemmas.Result.{err_from_is_err_and}
+use Rattle.eperftool.specs.Refused.{RefusesEncode}
+use Rattle.eperftool.proofs.ObjectRead.{refuses_input}
+use Rattle.eperftool.proofs.encode.read_and_make.Goals as goal
+
+pub returns-in_err-object-clause-refusal : goal.returns-in_err-object-clause-refusal
+returns-in_err-object-clause-refusal g c =
+    let left = g.S.Source.left in
+    let faults = g.S.Source.faults in
+    let p = err_from_is_err_and c.from_residual.result c.from_residual.ensures.1 in
+    let refuses = refuses_input c.args.options.now (left c.args.input.now) (left c.read_object.new.input) (faults c.args.input.now) (faults c.read_object.new.input) c.in_err-object.field-0.0 c.in_err-object.ensures.refusal in
+    rw p.1 (subst (RefusesEncode c.args.options.now (left c.args.input.now) (left c.read_object.new.input) (faults c.args.input.now) (faults c.read_object.new.input)) (sym p.2) refuses)

@@ -1,0 +1,53 @@
+// What the words of an `encode` say of a file.
+ghost use Rattle.std.specs.Prelude.{◌≡◌, ◌≤◌, IfOk, IfErr, Some};
+ghost use Rattle.tool_base.specs.Commands.{IsInRange};
+ghost use Rattle.packet_file.specs.Header.{size_fault};
+ghost use Rattle.eperftool.specs.Options.{encode_command, header_for, is_later};
+
+use fec_base::Words;
+use oti_fields::Oti;
+use packet_file::{FileFault, Header};
+use tool_base::Shape;
+
+/// The options of an `encode`: the code, the length of a symbol in bytes, and the greatest numbers of
+/// source symbols and of encoding symbols of a block.
+#[derive(Clone, Copy, Debug, PartialEq, Eq)]
+pub struct EncodeOptions {
+    pub shape: Shape,
+    pub symbol: u32,
+    pub block: u32,
+    pub max_n: u32,
+}
+
+impl EncodeOptions {
+    /// The header of the file of an object of `length` bytes, or the first limit that its sizes pass.
+    pub fn header(&self, length: u64) -> Result<Header, FileFault>
+        requires range { IsInRange (encode_command self.now) }
+        requires most { length ≤ 268435456 }
+        ensures ok { IfOk result (λ h. h ≡ header_for self.now length) }
+        ensures err { IfErr result (λ fault. size_fault (header_for self.now length) ≡ Some fault) }
+    {
+        let shape = self.shape;
+        let oti = Oti {
+            length,
+            symbol: self.symbol,
+            n1m3: (shape.n1 - 3) as u8,
+            group: 1,
+            block: self.block,
+            max_n: self.max_n,
+            seed: shape.seed_field(),
+        };
+        Header::new(shape.codec, oti)
+    }
+}
+
+/// Whether the first word is that of a command that isn't built yet.
+pub fn is_later(words: &Words) -> bool
+    ensures { result ≡ is_later words.now }
+{
+    if words.count() == 0 {
+        return false;
+    }
+    let word = words.word(0);
+    word == "lose" || word == "show" || word == "perf"
+}

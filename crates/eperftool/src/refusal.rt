@@ -1,0 +1,171 @@
+// Why a run ends early, and what it reports.
+ghost use Rattle.std.specs.Prelude.{◌≡◌, OnErr, OnOk, decimal};
+ghost use Rattle.std.specs.Io.KnownBytes.{Appends};
+ghost use Rattle.fec_base.specs.Bytes.{AppendsFront};
+ghost use Rattle.fec_base.specs.Causes.{HasCause};
+ghost use Rattle.eperftool.specs.Run.{IsTold};
+ghost use Rattle.eperftool.specs.Refused.{fault_status, file_fault_text, limit_text, packet_text, refusal_status, refusal_text};
+ghost use Rattle.eperftool.specs.declared.refusal.Refusal.TheVariants.{Memory, File};
+
+use crate::put_numbered;
+use fec_base::{NoMemory, Sink, WriteFailed};
+use packet_file::{FileFault, Limit};
+use std::alloc::{AllocError, AllocFailed};
+use tool_base::{Status, put_number, put_text};
+
+/// Why a run ends before its output, or within it for want of memory.
+#[derive(Clone, Copy, Debug, PartialEq, Eq)]
+pub enum Refusal {
+    /// There was no memory.
+    Memory,
+    /// The input failed, is no packet file, or is too large.
+    File(FileFault),
+    /// The code of this block takes more draws than there may be.
+    Draws(u32),
+}
+
+impl From<NoMemory> for Refusal {
+    ghost from_gives = { λ _ refusal. refusal ≡ Memory };
+
+    fn from(_: NoMemory) -> Self {
+        Refusal::Memory
+    }
+}
+
+impl From<AllocError> for Refusal {
+    ghost from_gives = { λ _ refusal. refusal ≡ Memory };
+
+    fn from(_: AllocError) -> Self {
+        Refusal::Memory
+    }
+}
+
+impl<T: Drop> From<AllocFailed<T>> for Refusal {
+    ghost from_gives = { λ _ refusal. refusal ≡ Memory };
+
+    fn from(_: AllocFailed<T>) -> Self {
+        Refusal::Memory
+    }
+}
+
+impl From<FileFault> for Refusal {
+    ghost from_gives = { λ fault refusal. refusal ≡ File fault };
+
+    fn from(fault: FileFault) -> Self {
+        Refusal::File(fault)
+    }
+}
+
+impl Refusal {
+    /// The status of a run that ends so.
+    pub fn status(self) -> Status
+        ensures { result ≡ refusal_status self }
+    {
+        match self {
+            Refusal::Memory => Status::Memory,
+            Refusal::File(fault) => fault_status(fault),
+            Refusal::Draws(_) => Status::Draws,
+        }
+    }
+}
+
+// The status of a fault of a file.
+fn fault_status(fault: FileFault) -> Status
+    ensures { result ≡ fault_status fault }
+{
+    match fault {
+        FileFault::ReadFault => Status::ReadFault,
+        FileFault::TooLarge(_) | FileFault::TooManyBlocks | FileFault::TooManyPackets => {
+            Status::Limit
+        }
+        _ => Status::Malformed,
+    }
+}
+
+/// Ends a run that is refused: the report says why, as far as it takes the text.
+pub fn refuse<R: Sink>(report: &mut R, refusal: Refusal) -> Status
+    ensures status { result ≡ refusal_status refusal }
+    ensures told { IsTold (refusal_text refusal) (R.held report.old) (R.held report.new) (R.faults report.old) (R.faults report.new) }
+{
+    let _ = put_refusal(report, refusal);
+    refusal.status()
+}
+
+// Reports a refusal.
+fn put_refusal<R: Sink>(report: &mut R, refusal: Refusal) -> Result<(), WriteFailed>
+    ensures written { OnOk result (Appends (R.held report.old) (R.held report.new) (refusal_text refusal)) }
+    ensures cut { OnErr result (AppendsFront (R.held report.old) (R.held report.new) (refusal_text refusal)) }
+    ensures cause { HasCause (R.faults report.old) (R.faults report.new) result }
+{
+    match refusal {
+        Refusal::Memory => put_text(report, Status::Memory.fault_text()),
+        Refusal::File(fault) => put_fault(report, fault),
+        Refusal::Draws(block) => put_numbered(report, "fault: draws block ", block as u64),
+    }
+}
+
+// Reports a fault of a file.
+fn put_fault<R: Sink>(report: &mut R, fault: FileFault) -> Result<(), WriteFailed>
+    ensures written { OnOk result (Appends (R.held report.old) (R.held report.new) (file_fault_text fault)) }
+    ensures cut { OnErr result (AppendsFront (R.held report.old) (R.held report.new) (file_fault_text fault)) }
+    ensures cause { HasCause (R.faults report.old) (R.faults report.new) result }
+{
+    match fault {
+        FileFault::ShortHeader { have } => {
+            put_numbered(report, "fault: header short ", have as u64)
+        }
+        FileFault::BadMagic => put_text(report, "fault: header magic\n"),
+        FileFault::BadVersion(version) => {
+            put_numbered(report, "fault: header version ", version as u64)
+        }
+        FileFault::BadCodec(number) => {
+            put_numbered(report, "fault: header codec ", number as u64)
+        }
+        FileFault::BadReserved => put_text(report, "fault: header reserved\n"),
+        FileFault::Field(fault) => {
+            put_numbered(report, "fault: header field ", fault.number() as u64)
+        }
+        FileFault::ShortPacket { index, have } => {
+            put_packet_fault(report, index, " short ", have as u64)
+        }
+        FileFault::NoSuchBlock { index, sbn } => {
+            put_packet_fault(report, index, " block ", sbn as u64)
+        }
+        FileFault::NoSuchSymbol { index, esi } => {
+            put_packet_fault(report, index, " symbol ", esi as u64)
+        }
+        FileFault::TooLarge(limit) => put_text(report, limit_text(limit)),
+        FileFault::TooManyBlocks => put_text(report, "fault: limit blocks\n"),
+        FileFault::TooManyPackets => put_text(report, "fault: limit packets\n"),
+        FileFault::ReadFault => put_text(report, Status::ReadFault.fault_text()),
+    }
+}
+
+// What is reported of a limit.
+fn limit_text(limit: Limit) -> &'static str
+    ensures { result.now ≡ limit_text limit }
+{
+    match limit {
+        Limit::Length => "fault: limit length\n",
+        Limit::BlockBytes => "fault: limit block-bytes\n",
+        Limit::AllSymbols => "fault: limit symbols\n",
+        Limit::AllBytes => "fault: limit bytes\n",
+    }
+}
+
+// Reports a fault of packet number `index`.
+fn put_packet_fault<R: Sink>(
+    report: &mut R,
+    index: u64,
+    what: &str,
+    number: u64,
+) -> Result<(), WriteFailed>
+    ensures written { OnOk result (Appends (R.held report.old) (R.held report.new) (packet_text index what.now number)) }
+    ensures cut { OnErr result (AppendsFront (R.held report.old) (R.held report.new) (packet_text index what.now number)) }
+    ensures cause { HasCause (R.faults report.old) (R.faults report.new) result }
+{
+    put_text(report, "fault: packet ")?;
+    put_number(report, index)?;
+    put_numbered(report, what, number)?;
+    Ok(())
+}
