@@ -3,13 +3,13 @@
 PREFIX ?= /usr/local
 
 # Words of a run over no bytes: `build` needs a run that ends with status 0.
-EMPTY_RUN = encode --codec=2d --width=3 --block=5 --symbol=1
+EMPTY_RUN = encode
 
 #   make help               prints the targets
 help:
 	@sed -n 's/^#   make /make /p' $(firstword $(MAKEFILE_LIST))
 
-#   make demo               encodes README.md, loses some packets, and decodes it from the others
+#   make demo               encodes a file with each code, loses some packets, and decodes it from the others
 demo:
 	@sh demo/run.sh
 
@@ -32,7 +32,7 @@ install: build/eperftool
 	install -d $(DESTDIR)$(PREFIX)/bin
 	install -m 755 build/eperftool $(DESTDIR)$(PREFIX)/bin/eperftool
 
-#   make bench              times the built program
+#   make bench              times the built program, and its peak of memory
 bench: build/eperftool
 	@bench/run.sh
 

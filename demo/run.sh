@@ -1,25 +1,27 @@
 #!/bin/sh
-# Shows the main job on a real file: encode it, lose some packets, and decode it from the others.
-# Then it loses too many. It runs build/eperftool where `make build` has made it, and else the program
-# unproved.
+# Shows the main job on a real file, once for each codec: encode it, lose some packets, decode it from
+# the others, and compare. Then too many are lost. It runs build/eperftool where `make build` has made
+# it (EPERFTOOL names another program), and else the sources unproved, which are built twice for it.
 set -eu
 cd "$(dirname "$0")/.."
 
-file=README.md
-symbol=1024
-width=4
-block=64
+symbol=256
+block=200
+width=20
+packet=$((4 + symbol))
+codecs='staircase triangle 2d'
 
+program=${EPERFTOOL:-$PWD/build/eperftool}
 here=$(mktemp -d)
 trap 'rm -rf "$here"' EXIT
+mkdir "$here/encode" "$here/decode" "$here/out"
 
-if [ -x build/eperftool ]; then
-    echo "Program: build/eperftool, which 'make build' made."
-    program() { build/eperftool "$@"; }
+if [ -x "$program" ]; then
+    echo "Program: $program"
 elif command -v rt > /dev/null; then
-    echo "Program: UNPROVED. No build/eperftool is there, so 'rt try' runs the sources without a proof."
-    echo "         (A start takes about half a minute; 'make build' proves and builds the program.)"
-    program() { (cd crates/eperftool && rt try -- "$@"); }
+    program=
+    echo "Program: UNPROVED. No build/eperftool is there, so 'rt try' builds the sources without a proof, once"
+    echo "         for each command, in about half a minute. 'make build' proves and builds the program."
 else
     echo "There is neither build/eperftool nor 'rt' on the PATH: see 'Set-up' in README.md." >&2
     exit 1
@@ -28,65 +30,131 @@ fi
 # Bytes of a file, from an offset on.
 bytes() { tail -c "+$(($2 + 1))" "$1" | head -c "$3"; }
 
-# The bytes of standard input in hexadecimal, on one line.
+# The bytes of standard input in hexadecimal.
 hex() { od -An -v -tx1 | tr -d '\n' | sed 's/^ //'; }
 
-# run STATUS INPUT OUTPUT WORDS..: runs the program, which must end with the status. Shows the report.
-run() {
-    expected=$1 input=$2 output=$3
-    shift 3
-    echo "\$ eperftool $* < $(basename "$input") > $(basename "$output")"
-    status=0
-    program "$@" < "$input" > "$output" 2> "$here/report" || status=$?
-    if [ "$status" -ne "$expected" ]; then
-        cat "$here/report" >&2
-        echo "The program ended with status $status, and not with $expected." >&2
-        exit 1
-    fi
-    echo "Status $status. The report (standard error):"
-    grep -E '^(blocks [0-9]+|packets [0-9]+|block 0 [a-z]+)$' "$here/report" | sed 's/^/    /'
+# The number behind a word of a report.
+number() { sed -n "s/^$2 \([0-9]*\)$/\1/p" "$1"; }
+
+# stop WHY: ends the demo.
+stop() {
+    echo "$1" >&2
+    exit 1
 }
 
-# without LOST..: the packet file without the packets of these numbers, counted from 0.
-without() {
-    bytes "$here/packets" 0 26
-    packet=0
-    while [ "$packet" -lt "$packets" ]; do
-        case " $* " in
-        *" $packet "*) ;;
-        *) bytes "$here/packets" $((26 + packet * (4 + symbol))) $((4 + symbol)) ;;
-        esac
-        packet=$((packet + 1))
+# run_cases COMMAND: runs the command on each file NAME in the folder of its name, with the words in
+# NAME.args. Leaves what came out as NAME, NAME.report and NAME.status in the folder out.
+run_cases() {
+    if [ -n "$program" ]; then
+        for words in "$here/$1"/*.args; do
+            name=$(basename "$words" .args)
+            status=0
+            # shellcheck disable=SC2046
+            "$program" "$1" $(cat "$words") < "$here/$1/$name" > "$here/out/$name" 2> "$here/out/$name.report" || status=$?
+            echo "$status" > "$here/out/$name.status"
+        done
+        return
+    fi
+    (cd crates/eperftool && rt try --cases "$here/$1" -- "$1") > "$here/outputs" 2> "$here/reports" || true
+    # Each report ends with a line `case=NAME run=ended status=S ..`.
+    awk -v out="$here/out/" '
+        /^case=/ {
+            name = substr($1, 6)
+            status = $3
+            sub("status=", "", status)
+            printf "%s", report > (out name ".report")
+            print status > (out name ".status")
+            report = ""
+            next
+        }
+        { report = report $0 "\n" }' "$here/reports"
+    # Each output stands behind a line `== NAME`.
+    for words in "$here/$1"/*.args; do
+        name=$(basename "$words" .args)
+        [ -f "$here/out/$name.status" ] || { cat "$here/reports" >&2; stop "'rt try' gave no answer."; }
+        start=$(grep -a -b -x "== $name" "$here/outputs" | cut -d : -f 1)
+        size=$(output_size "$1" "$name")
+        bytes "$here/outputs" $((start + ${#name} + 4)) "$size" > "$here/out/$name"
     done
 }
 
-length=$(($(wc -c < "$file")))
-sources=$(((length + symbol - 1) / symbol))
+# output_size COMMAND NAME: how many bytes came out, by the status and the report.
+output_size() {
+    if [ "$(cat "$here/out/$2.status")" -ne 0 ]; then
+        echo 0
+    elif [ "$1" = encode ]; then
+        echo $((26 + $(number "$here/out/$2.report" packets) * packet))
+    else
+        echo "$length"
+    fi
+}
 
-echo
-echo "The file: $file, $length bytes, which are $sources source symbols of $symbol bytes, in rows of $width."
-echo
-run 0 "$file" "$here/packets" encode --codec=2d --width=$width --block=$block --symbol=$symbol
-packets=$(sed -n 's/^packets \([0-9]*\)$/\1/p' "$here/report")
+# show STATUS NAME: how the run ended, which must be with the status, and its report on one line.
+show() {
+    report=$(tr '\n' ',' < "$here/out/$2.report" | sed 's/,$//; s/,/, /g')
+    [ "$(cat "$here/out/$2.status")" -eq "$1" ] || stop "The run ended with status $(cat "$here/out/$2.status"), and not with $1: $report"
+    echo "    status $1: $report"
+}
 
+# lose NAME NEW: the packet file NAME as the case NEW of `decode`, without some packets: `first` are kept,
+# and then `lost` are lost and `kept` are kept, again and again.
+lose() {
+    tail -c +27 "$here/out/$1" > "$here/packets"
+    {
+        head -c $((26 + first * packet)) "$here/out/$1"
+        at=$((first + lost))
+        while [ "$at" -lt "$count" ]; do
+            dd if="$here/packets" bs=$packet skip=$at count="$kept" 2> /dev/null
+            at=$((at + kept + lost))
+        done
+    } > "$here/decode/$2"
+    : > "$here/decode/$2.args"
+}
+
+# Which symbols peeling reaches goes by the sizes of the blocks and not by the bytes, so the length is fixed.
+length=200000
+cat README.md docs/*.md crates/*/specs/*.antt | head -c $length > "$here/object"
 echo
-echo "The packet file: $(($(wc -c < "$here/packets"))) bytes, a header of 26 and $packets packets of $((4 + symbol))."
-echo "header    $(bytes "$here/packets" 0 26 | hex)"
-for packet in 0 1; do
-    start=$((26 + packet * (4 + symbol)))
-    echo "packet $packet  $(bytes "$here/packets" $start 4 | hex) | $(bytes "$here/packets" $((start + 4)) 12 | hex) .."
+echo "The file: the first $length bytes of README.md, the pages of docs/ and the definitions."
+
+for codec in $codecs; do
+    cp "$here/object" "$here/encode/$codec"
+    printf -- '--codec=%s\n--symbol=%s\n--block=%s\n' "$codec" $symbol $block > "$here/encode/$codec.args"
+done
+echo "--width=$width" >> "$here/encode/2d.args"
+run_cases encode
+for codec in $codecs; do
+    echo
+    echo "\$ eperftool encode $(tr '\n' ' ' < "$here/encode/$codec.args")< file > $codec"
+    show 0 "$codec"
+    echo "    header $(head -c 26 "$here/out/$codec" | hex)"
 done
 
-echo
-echo "Packets 1, 6 and $sources are lost: two source symbols, and the sum of the grid's first row."
-without 1 6 "$sources" > "$here/some"
-run 0 "$here/some" "$here/again" decode
-cmp "$file" "$here/again"
-echo "The output is $file, byte for byte (cmp)."
-
-echo
-echo "Packets 0, 1, 4 and 5 are lost: each row and each column of the grid that lacks one lacks two."
-without 0 1 4 5 > "$here/few"
-run 12 "$here/few" "$here/nothing" decode
-cmp /dev/null "$here/nothing"
-echo "The output is empty: these packets are too few for peeling."
+for codec in $codecs; do
+    count=$(number "$here/out/$codec.report" packets)
+    blocks=$(number "$here/out/$codec.report" blocks)
+    case $codec in
+    2d) first=50 lost=$width kept=$((count / blocks - lost)) ;;
+    *) first=7 lost=1 kept=7 ;;
+    esac
+    lose "$codec" "$codec-some"
+    first=0 lost=120 kept=$count
+    lose "$codec" "$codec-few"
+done
+run_cases decode
+for codec in $codecs; do
+    echo
+    case $codec in
+    2d) echo "$width packets in a row are lost in each block:" ;;
+    *) echo "Each eighth packet is lost:" ;;
+    esac
+    echo "\$ eperftool decode < $codec-some > again"
+    show 0 "$codec-some"
+    cmp "$here/object" "$here/out/$codec-some"
+    echo "    The output is the file, byte for byte (cmp)."
+    echo "The first 120 packets are lost, so the first block has fewer left than it has source symbols:"
+    echo "\$ eperftool decode < $codec-few > nothing"
+    show 12 "$codec-few"
+    cmp /dev/null "$here/out/$codec-few"
+    echo "    The output is empty."
+done
