@@ -39,7 +39,7 @@ fn sizes_share_five_bytes(rt: HostRuntime) {
     );
 }
 
-// The fault that comes first is named, with the codec of the number.
+// The fields of a codec have this fault first.
 fn check(rt: &impl Abort, codec: Codec, oti: Oti, fault: Option<FieldFault>) {
     assert!(rt; oti.n1m3 < 8 && oti.group < 32 && oti.symbol < 65_536);
     assert!(rt; oti.length < 1 << 48 && oti.block < 1 << 20 && oti.max_n < 1 << 20);
@@ -47,92 +47,59 @@ fn check(rt: &impl Abort, codec: Codec, oti: Oti, fault: Option<FieldFault>) {
 }
 
 #[test]
-fn the_first_fault_is_named(rt: HostRuntime) {
-    let fine = THREE_OF_SEVEN;
-    let ldpc = Codec::Staircase;
-    check(&rt, ldpc, fine, None);
-    check(&rt, Codec::Triangle, fine, None);
-    check(
-        &rt,
-        ldpc,
-        Oti {
-            symbol: 0,
-            group: 2,
-            ..fine
-        },
-        Some(FieldFault::SymbolZero),
-    );
-    check(
-        &rt,
-        ldpc,
-        Oti {
-            group: 2,
-            block: 0,
-            ..fine
-        },
-        Some(FieldFault::GroupNotOne),
-    );
-    check(
-        &rt,
-        ldpc,
-        Oti { block: 0, ..fine },
-        Some(FieldFault::BlockZero),
-    );
-    check(
-        &rt,
-        ldpc,
-        Oti { max_n: 2, ..fine },
-        Some(FieldFault::MaxBelowBlock),
-    );
-    check(
-        &rt,
-        ldpc,
-        Oti {
-            max_n: 65_537,
-            ..fine
-        },
-        Some(FieldFault::MaxTooLarge),
-    );
-    check(
-        &rt,
-        ldpc,
-        Oti { seed: 0, ..fine },
-        Some(FieldFault::SeedRange),
-    );
-    check(
-        &rt,
-        ldpc,
-        Oti {
-            seed: 2_147_483_647,
-            ..fine
-        },
-        Some(FieldFault::SeedRange),
-    );
-    let grid = Oti {
-        block: 5,
-        max_n: 10,
-        seed: 3,
-        ..fine
-    };
-    check(&rt, Codec::Parity2d, grid, None);
-    check(
-        &rt,
-        Codec::Parity2d,
-        Oti { seed: 0, ..grid },
-        Some(FieldFault::WidthZero),
-    );
-    check(
-        &rt,
-        Codec::Parity2d,
-        Oti { max_n: 11, ..grid },
-        Some(FieldFault::NotFixed),
-    );
-    check(
-        &rt,
-        Codec::Parity2d,
-        Oti { n1m3: 1, ..grid },
-        Some(FieldFault::NotFixed),
-    );
+fn the_first_fault_of_an_ldpc_code_is_named(rt: HostRuntime) {
+    // The symbol length, G, the greatest block length, the greatest n, the seed, and the fault.
+    let cases = [
+        (1, 1, 3, 7, 1, None),
+        (0, 2, 3, 7, 1, Some(FieldFault::SymbolZero)),
+        (1, 2, 0, 7, 1, Some(FieldFault::GroupNotOne)),
+        (1, 1, 0, 7, 1, Some(FieldFault::BlockZero)),
+        (1, 1, 3, 2, 0, Some(FieldFault::MaxBelowBlock)),
+        (1, 1, 3, 65_537, 0, Some(FieldFault::MaxTooLarge)),
+        (1, 1, 3, 7, 0, Some(FieldFault::SeedRange)),
+        (1, 1, 3, 7, 2_147_483_647, Some(FieldFault::SeedRange)),
+    ];
+    for (symbol, group, block, max_n, seed, fault) in cases {
+        let oti = Oti {
+            length: 3,
+            symbol,
+            n1m3: 0,
+            group,
+            block,
+            max_n,
+            seed,
+        };
+        check(&rt, Codec::Staircase, oti, fault);
+        check(&rt, Codec::Triangle, oti, fault);
+    }
+}
+
+#[test]
+fn the_first_fault_of_a_grid_is_named(rt: HostRuntime) {
+    // N1 - 3, the greatest n, the width, and the fault.
+    let cases = [
+        (0, 10, 3, None),
+        (1, 10, 0, Some(FieldFault::WidthZero)),
+        (0, 11, 3, Some(FieldFault::NotFixed)),
+        (1, 10, 3, Some(FieldFault::NotFixed)),
+    ];
+    for (n1m3, max_n, seed, fault) in cases {
+        let oti = Oti {
+            n1m3,
+            block: 5,
+            max_n,
+            seed,
+            ..THREE_OF_SEVEN
+        };
+        check(&rt, Codec::Parity2d, oti, fault);
+    }
+}
+
+#[test]
+fn faults_are_numbered_in_their_order(rt: HostRuntime) {
+    assert_eq!(rt; FieldFault::SymbolZero.number(), 1);
+    assert_eq!(rt; FieldFault::SeedRange.number(), 6);
+    assert_eq!(rt; FieldFault::NotFixed.number(), 8);
 }
 
 #[test]
