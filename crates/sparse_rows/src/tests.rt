@@ -5,6 +5,7 @@ ghost use Rattle.sparse_rows.specs.Matrix.{row_of, with_entry};
 use crate::{Code, RowsBuilder};
 use fec_base::{Ledger, NoMemory, Steps, Tally};
 use std::alloc::Global;
+use std::process::Abort;
 use std::test::Fail;
 
 // The rows of a code of three source symbols and four repair symbols.
@@ -60,12 +61,20 @@ fn a_builder_knows_its_entries(rt: HostRuntime) -> Result<(), Fail> {
 fn a_code_has_rising_rows(rt: HostRuntime) -> Result<(), Fail> {
     let alloc = rt.alloc();
     let code = Code::from_builder(alloc, filled(alloc, 3, 7, &ENTRIES)?)?;
+    check_rows(&rt, alloc, &code)?;
+    let copy = code.copy(alloc)?;
+    check_rows(&rt, alloc, &copy)?;
+    Ok(())
+}
+
+// The code has the rows of three source symbols and four repair symbols.
+fn check_rows(rt: &impl Abort, alloc: Global, code: &Code) -> Result<(), Fail> {
     assert_eq!(rt; code.k(), 3);
     assert_eq!(rt; code.n(), 7);
     assert_eq!(rt; code.entries(), 16);
     let mut steps = Steps::<Tally>::start();
     for (r, columns) in ROWS.iter().enumerate() {
-        let found = row(alloc, &code, r as u32, &mut steps)?;
+        let found = row(alloc, code, r as u32, &mut steps)?;
         assert_eq!(rt; found.as_slice(), *columns, "row {r}");
     }
     Ok(())
