@@ -51,10 +51,12 @@ block_lines outcomes = flat_map (λ (p : ℕ × BlockOutcome). block_line p.0 p.
 abbrev pub decode_report : List BlockOutcome → ℕ → List ℕ
 decode_report outcomes count = block_lines outcomes ++ codes "packets " ++ decimal count ++ codes "\n"
 
+-- whether the block's packets contradict one another
 abbrev pub is_contradicted : BlockOutcome → Bool
 is_contradicted outcome.Contradicted = true
 is_contradicted _ = false
 
+-- whether peeling leaves a source symbol of the block open
 abbrev pub is_stuck : BlockOutcome → Bool
 is_stuck outcome.Stuck = true
 is_stuck _ = false
