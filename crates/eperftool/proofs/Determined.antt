@@ -11,7 +11,8 @@ use Rattle.sparse_rows.specs.Closure.{closure}
 use Rattle.peeling.specs.Decoder.{Decoder, kept}
 use Rattle.peeling.specs.Stands.{IsConsistent, StandsFor}
 use Rattle.peeling.proofs.Arrivals.{sums_agree}
-use Rattle.peeling.proofs.Closure.{closure_full, row_below}
+use Rattle.sparse_rows.proofs.Shape.{row_below}
+use Rattle.peeling.proofs.Closure.{closure_full}
 use Rattle.packet_file.specs.Header.{HeaderFields}
 use Rattle.packet_file.specs.Packets.{block_symbols}
 use Rattle.tool_base.specs.declared.status.Status.TheVariants as status

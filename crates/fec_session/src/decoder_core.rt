@@ -1,6 +1,7 @@
 // The decoder of one source block.
 ghost use Rattle.std.specs.Prelude.{◌≡◌, ◌↔◌, ◌<◌, ◌≤◌, ℕ, true, [], IsTrue, IsSome, IfSome, IfOk, IfErr, length, count_by};
-ghost use Rattle.peeling.specs.Decoder.{flagged, kept, HasAllSource, IsDecoder, IsEmpty};
+ghost use Rattle.sparse_rows.specs.Closure.{flagged};
+ghost use Rattle.peeling.specs.Decoder.{kept, HasAllSource, IsDecoder, IsEmpty};
 ghost use Rattle.peeling.specs.Stands.{StandsFor, Receives};
 ghost use Rattle.peeling.specs.Outcome.{IsOutcome};
 

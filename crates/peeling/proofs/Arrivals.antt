@@ -12,7 +12,7 @@ use Rattle.sparse_rows.specs.Codeword.{Arrival, Fits, positions}
 use Rattle.sparse_rows.specs.Closure.{Set, IsWithin, HasSameMembers, adding, closure, fresh, members}
 use Rattle.peeling.specs.Agree.{Agree}
 use Rattle.peeling.specs.Stands.{IsConsistent}
-use Rattle.peeling.proofs.Sets.{any_at, same_test, or_none, or_cases, or_first, or_second, rounds_hold, rounds_within, rounds_grow}
+use Rattle.sparse_rows.proofs.Sets.{any_at, same_test, or_none, or_cases, or_first, or_second, rounds_hold, rounds_within, rounds_grow}
 use Rattle.peeling.proofs.Closure.{closure_rests}
 use Rattle.peeling.proofs.Determined.{symbols_agree}
 use Rattle.peeling.proofs.Flags.{members_same}

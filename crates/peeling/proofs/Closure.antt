@@ -5,12 +5,8 @@ use Rattle.std.proofs.Common.{le_refl, zero-add, ap₂, add-suc, add-zero, zero-
 use Rattle.std.proofs.lemmas.List.Elements.{All-head, All-filter}
 use Rattle.sparse_rows.specs.Matrix.{Matrix, HasShape}
 use Rattle.sparse_rows.specs.Closure.{Set, IsWithin, HasSameMembers, outside, round, rounds, closure}
-use Rattle.sparse_rows.proofs.Shape.{below, last_outside, last_or_before}
-use Rattle.peeling.proofs.Sets.{rounds_within, round_holds, outside_one, round_row, round_cases, same_test}
-
--- each column of a row is below n
-pub row_below : (m : Matrix) → HasShape m → (i : ℕ) → i < length m.rows → All (λ c. c < m.n) (get_or m.rows i [])
-row_below m shape i h k d lt = let r = (shape.row i h).within k d lt in let e = shape.count in omega arith
+use Rattle.sparse_rows.proofs.Shape.{below, row_below, last_outside, last_or_before}
+use Rattle.sparse_rows.proofs.Sets.{rounds_within, round_holds, outside_one, round_row, round_cases, same_test}
 
 -- a fixed set that holds the columns before the last of a row holds that one
 source_step : (m : Matrix) → HasShape m → (t : Set) → HasSameMembers (round m t) t → (i : ℕ) → i < length m.rows → ((c : ℕ) → c < m.k + i → t c ≡ true) → t (m.k + i) ≡ true

@@ -10,7 +10,7 @@ use Rattle.sparse_rows.specs.Closure.{Set, outside}
 use Rattle.sparse_rows.proofs.Symbols.{xor_sum_push}
 use Rattle.sparse_rows.proofs.Planes.{length_zero, byte_zero}
 use Rattle.peeling.specs.Peeled.{IsAtRest}
-use Rattle.peeling.proofs.Closure.{row_below}
+use Rattle.sparse_rows.proofs.Shape.{row_below}
 
 -- the columns of a code's row are positions
 pub column_below : (m : Matrix) → IsCode m → (r : ℕ) → r < m.n - m.k → (i : ℕ) → i < length (row_of m r) → get_or (row_of m r) i 0 < m.n

@@ -4,13 +4,13 @@ use Rattle.std.proofs.Common.{◌≡◌, ℕ, ⊎_elim, ◌==◌, List, [], get_
 use Rattle.std.proofs.lemmas.List.Elements.{All-from_get_or, Contains-get_or}
 use Rattle.sparse_rows.specs.Matrix.{Matrix}
 use Rattle.sparse_rows.specs.Codeword.{Arrival, Fits, IsCodeword, positions, symbol_at}
-use Rattle.sparse_rows.specs.Closure.{HasSameMembers, IsWithin, closure}
+use Rattle.sparse_rows.specs.Closure.{flagged, HasSameMembers, IsWithin, closure}
 use Rattle.sparse_rows.proofs.Planes.{symbol_at_is}
 use Rattle.peeling.specs.Agree.{Agree}
-use Rattle.peeling.specs.Decoder.{Decoder, flagged, kept}
+use Rattle.peeling.specs.Decoder.{Decoder, kept}
 use Rattle.peeling.specs.Stands.{IsConsistent, StandsFor}
 use Rattle.peeling.specs.Laws.{HasSameArrivals}
-use Rattle.peeling.proofs.Sets.{any_at, any_from, same_test, true_or_false}
+use Rattle.sparse_rows.proofs.Sets.{any_at, any_from, same_test, true_or_false}
 use Rattle.peeling.proofs.Arrivals.{consistent_agree}
 
 pub kept_consistent : (d : Decoder) (arrivals : List Arrival) (x : ℕ → List ℕ) → StandsFor d arrivals → IsConsistent d.matrix d.len arrivals x → Agree (flagged d.known) (kept d) x

@@ -6,10 +6,9 @@ use Rattle.std.specs.List.{range_with_len}
 use Rattle.std.proofs.lemmas.List.{map-id}
 use Rattle.std.proofs.lemmas.List.Filters.{length-filter_both}
 use Rattle.std.proofs.lemmas.List.FromFn.{filter_of_map_range_with_len_more, length-range_with_len}
-use Rattle.sparse_rows.specs.Closure.{Set, HasSameMembers, members, adding}
-use Rattle.peeling.specs.Decoder.{flagged}
+use Rattle.sparse_rows.specs.Closure.{Set, flagged, HasSameMembers, members, adding}
 use Rattle.peeling.specs.Peeled.{unset_count}
-use Rattle.peeling.proofs.Sets.{true_or_false, or_none, or_true}
+use Rattle.sparse_rows.proofs.Sets.{true_or_false, or_none, or_true}
 
 -- one flag more
 pub flagged_set : (flags : List Bool) (e : ℕ) → e < length flags → flagged (set flags e true) ≡ adding e (flagged flags)

@@ -9,10 +9,9 @@ use Rattle.sparse_rows.specs.Symbol.{IsSymbol, zero_symbol, symbols_of}
 use Rattle.sparse_rows.specs.Codeword.{IsAssignment}
 use Rattle.sparse_rows.proofs.Planes.{symbol_at_is}
 use Rattle.sparse_rows.proofs.Symbols.{length_symbols, symbol_is, symbol_room, symbols_are, piece, piece_of_front}
-use Rattle.sparse_rows.specs.Closure.{adding}
-use Rattle.peeling.specs.Decoder.{flagged}
+use Rattle.sparse_rows.specs.Closure.{flagged, adding}
 use Rattle.peeling.specs.Peeled.{laid, IsLaid}
-use Rattle.peeling.proofs.Sets.{true_or_false}
+use Rattle.sparse_rows.proofs.Sets.{true_or_false}
 use Rattle.peeling.proofs.Flags.{flagged_set}
 
 -- bytes are below 256

@@ -2,10 +2,9 @@
 use borrow.Author.Count.{below_more}
 use Rattle.std.proofs.Common.{◌≡◌, ℕ, ◌+◌, ◌-◌, ◌<◌, ◌≤◌, Bool, true, false, ◌||◌, List, length, refl, sym, ◌∙◌, subst, arith, le_refl, true≢false}
 use Rattle.sparse_rows.specs.Matrix.{Matrix, IsCode, row_of}
-use Rattle.sparse_rows.specs.Closure.{HasSameMembers, round}
-use Rattle.peeling.specs.Decoder.{flagged}
+use Rattle.sparse_rows.specs.Closure.{flagged, HasSameMembers, round}
 use Rattle.peeling.specs.Peeled.{laid, IsLaid, unset_count, IsAtRest, IsPeeled}
-use Rattle.peeling.proofs.Sets.{or_true}
+use Rattle.sparse_rows.proofs.Sets.{or_true}
 use Rattle.peeling.proofs.Peeled.{peeled_none, peeled_on, rows_rest}
 
 -- what holds once the first r rows were gone over

@@ -4,16 +4,15 @@ use Rattle.std.proofs.lemmas.Bool.{ne_eqb}
 use Rattle.sparse_rows.specs.Symbol.{IsSymbol, xor_sum, zero_symbol}
 use Rattle.sparse_rows.specs.Matrix.{Matrix, HasShape, IsCode, row_of}
 use Rattle.sparse_rows.specs.Codeword.{IsAssignment, SumsToZeroWithin}
-use Rattle.sparse_rows.specs.Closure.{Set, IsWithin, HasSameMembers, outside, adding, round, closure}
+use Rattle.sparse_rows.specs.Closure.{Set, flagged, IsWithin, HasSameMembers, outside, adding, round, closure}
 use Rattle.sparse_rows.proofs.Encode.{sum_is_symbol}
 use Rattle.sparse_rows.proofs.Algebra.{total, one_left, closes}
 use Rattle.sparse_rows.proofs.Planes.{byte, byte_laws, byte_sum, byte_zero, plane_zero, same_bytes, length_sum}
 use Rattle.peeling.specs.Agree.{Agree}
-use Rattle.peeling.specs.Decoder.{flagged}
 use Rattle.peeling.specs.Peeled.{laid, IsLaid, unset_count, IsAtRest, IsPeeled}
-use Rattle.peeling.proofs.Sets.{same_test, or_cases, or_first, outside_one, round_row, round_cases, round_holds, rounds_hold, rounds_within}
+use Rattle.sparse_rows.proofs.Sets.{same_test, or_cases, or_first, outside_one, round_row, round_cases, round_holds, rounds_hold, rounds_within}
 use Rattle.peeling.proofs.Closure.{closure_rests}
-use Rattle.peeling.proofs.Determined.{row_within}
+use Rattle.sparse_rows.proofs.Closed.{row_within}
 use Rattle.peeling.proofs.Flags.{flagged_set, unset_less}
 use Rattle.peeling.proofs.Laid.{keeping, laid_is, laid_put, laid_with}
 use Rattle.peeling.proofs.Columns.{single_below}

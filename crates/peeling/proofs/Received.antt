@@ -7,12 +7,12 @@ use Rattle.std.proofs.lemmas.List.{length-replicate}
 use Rattle.sparse_rows.specs.Symbol.{IsSymbol, xor, zero_symbol, symbols_of}
 use Rattle.sparse_rows.specs.Matrix.{Matrix, IsCode}
 use Rattle.sparse_rows.specs.Codeword.{Arrival, positions, SumsToZero, SumsToZeroWithin}
-use Rattle.sparse_rows.specs.Closure.{Set, HasSameMembers, members, adding, round, closure}
+use Rattle.sparse_rows.specs.Closure.{Set, flagged, HasSameMembers, members, adding, round, closure}
 use Rattle.peeling.specs.Agree.{Agree}
-use Rattle.peeling.specs.Decoder.{Decoder, flagged}
+use Rattle.peeling.specs.Decoder.{Decoder}
 use Rattle.peeling.specs.Stands.{IsConsistent, StandsFor, Receives}
 use Rattle.peeling.specs.Peeled.{laid, IsLaid, IsPeeled}
-use Rattle.peeling.proofs.Sets.{any_from, or_cases, or_first, or_second, rounds_hold, true_or_false}
+use Rattle.sparse_rows.proofs.Sets.{any_from, or_cases, or_first, or_second, rounds_hold, true_or_false}
 use Rattle.peeling.proofs.Flags.{flagged_set, flagged_none}
 use Rattle.peeling.proofs.Closure.{closure_none}
 use Rattle.peeling.proofs.Laid.{keeping, laid_is, laid_put, laid_zero}

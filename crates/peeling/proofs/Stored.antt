@@ -5,11 +5,11 @@ use Rattle.std.proofs.lemmas.List.{with_items_is, length-replicate}
 use Rattle.sparse_rows.specs.Symbol.{IsSymbol}
 use Rattle.sparse_rows.specs.Matrix.{Matrix, IsCode}
 use Rattle.sparse_rows.specs.Codeword.{SumsToZeroWithin}
-use Rattle.sparse_rows.specs.Closure.{HasSameMembers, members, round}
+use Rattle.sparse_rows.specs.Closure.{flagged, HasSameMembers, members, round}
 use Rattle.sparse_rows.proofs.Symbols.{length_symbols, symbols_are}
 use Rattle.peeling.specs.declared.peeler.Store.{Store}
 use Rattle.peeling.specs.declared.peeler.Peeler.TheInside.{Inside}
-use Rattle.peeling.specs.Decoder.{Decoder, IsDecoder, flagged, kept}
+use Rattle.peeling.specs.Decoder.{Decoder, IsDecoder, kept}
 use Rattle.peeling.specs.Stands.{StandsFor, Receives}
 use Rattle.peeling.specs.Peeled.{laid, IsLaid, IsPeeled}
 use Rattle.peeling.specs.Blank.{IsBlank}

@@ -1,9 +1,9 @@
 -- What contracts see of a decoder.
-use Rattle.std.specs.Prelude.{◌≡◌, ◌≤◌, ◌<◌, ◌&&◌, not, ℕ, Bool, true, false, List, [], length, replicate, slice_index_or, count_by, All}
+use Rattle.std.specs.Prelude.{◌≡◌, ◌≤◌, ◌<◌, ◌&&◌, not, ℕ, Bool, true, false, List, [], length, replicate, count_by, All}
 use Rattle.sparse_rows.specs.Symbol.{IsSymbol}
 use Rattle.sparse_rows.specs.Matrix.{Matrix, IsCode}
 use Rattle.sparse_rows.specs.Codeword.{symbol_at}
-use Rattle.sparse_rows.specs.Closure.{Set, HasSameMembers, members, closure}
+use Rattle.sparse_rows.specs.Closure.{HasSameMembers, flagged, members, closure}
 
 -- a decoder
 pub record Decoder : Type 0 where
@@ -18,10 +18,6 @@ pub record Decoder : Type 0 where
   pub clashed : Bool
   -- the positions that the last arrival rebuilt
   pub fresh : List ℕ
-
--- the set of the positions whose flag is set
-abbrev pub flagged : List Bool → Set
-flagged flags position = slice_index_or flags position false
 
 -- how many flags are set
 abbrev pub set_count : List Bool → ℕ

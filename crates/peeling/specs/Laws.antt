@@ -2,9 +2,9 @@
 use Rattle.std.specs.Prelude.{◌≡◌, ◌<◌, ◌↔◌, ℕ, true, false, List, Contains}
 use Rattle.sparse_rows.specs.Matrix.{Matrix, HasShape}
 use Rattle.sparse_rows.specs.Codeword.{IsAssignment, IsCodeword, Arrival, Fits, symbol_at, SumsToZeroWithin}
-use Rattle.sparse_rows.specs.Closure.{Set, IsWithin, HasSameMembers, round, closure}
+use Rattle.sparse_rows.specs.Closure.{Set, flagged, IsWithin, HasSameMembers, round, closure}
 use Rattle.peeling.specs.Agree.{Agree}
-use Rattle.peeling.specs.Decoder.{Decoder, flagged, kept}
+use Rattle.peeling.specs.Decoder.{Decoder, kept}
 use Rattle.peeling.specs.Stands.{IsConsistent, StandsFor}
 
 -- a round adds nothing to the closure

@@ -1,6 +1,7 @@
 -- What a decoder answers to an arrival.
 use Rattle.std.specs.Prelude.{◌≡◌, ◌↔◌, ℕ, true, false, List, IsTrue}
-use Rattle.peeling.specs.Decoder.{Decoder, flagged, kept}
+use Rattle.sparse_rows.specs.Closure.{flagged}
+use Rattle.peeling.specs.Decoder.{Decoder, kept}
 use Rattle.peeling.specs.declared.peeler.Arrival.{Arrival}
 use Rattle.peeling.specs.declared.peeler.Arrival.TheVariants.{Fresh, Repeat}
 

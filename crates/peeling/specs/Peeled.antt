@@ -3,9 +3,8 @@ use Rattle.std.specs.Prelude.{◌≡◌, ◌≢◌, ◌*◌, ◌<◌, ℕ, Bool,
 use Rattle.sparse_rows.specs.Symbol.{zero_symbol, symbols_of}
 use Rattle.sparse_rows.specs.Matrix.{Matrix}
 use Rattle.sparse_rows.specs.Codeword.{symbol_at, IsAssignment, SumsToZero, SumsToZeroWithin}
-use Rattle.sparse_rows.specs.Closure.{Set, IsWithin, HasSameMembers, outside, round, closure}
+use Rattle.sparse_rows.specs.Closure.{Set, flagged, IsWithin, HasSameMembers, outside, round, closure}
 use Rattle.peeling.specs.Agree.{Agree}
-use Rattle.peeling.specs.Decoder.{flagged}
 
 -- the symbol of a position, of n that lie one after the other in some bytes
 abbrev pub laid : ℕ → ℕ → List ℕ → ℕ → List ℕ

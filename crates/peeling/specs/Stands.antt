@@ -2,9 +2,9 @@
 use Rattle.std.specs.Prelude.{◌≡◌, ℕ, true, false, List, [], ◌∷◌, ◌++◌, slice_set}
 use Rattle.sparse_rows.specs.Matrix.{Matrix}
 use Rattle.sparse_rows.specs.Codeword.{IsAssignment, Arrival, Fits, positions, SumsToZeroWithin}
-use Rattle.sparse_rows.specs.Closure.{HasSameMembers, closure, fresh}
+use Rattle.sparse_rows.specs.Closure.{flagged, HasSameMembers, closure, fresh}
 use Rattle.peeling.specs.Agree.{Agree}
-use Rattle.peeling.specs.Decoder.{Decoder, flagged, kept}
+use Rattle.peeling.specs.Decoder.{Decoder, kept}
 
 -- x agrees with every arrival, and makes each row within the closure of their positions sum to zero
 pub record IsConsistent (m : Matrix) (len : ℕ) (arrivals : List Arrival) (x : ℕ → List ℕ) : Type 0 where

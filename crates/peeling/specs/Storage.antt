@@ -3,9 +3,9 @@ use Rattle.std.specs.Prelude.{◌≡◌, ◌≤◌, length}
 use Rattle.std.specs.Vec.{vec_capacity}
 use Rattle.sparse_rows.specs.Symbol.{symbols_of}
 use Rattle.sparse_rows.specs.Matrix.{IsCode}
-use Rattle.sparse_rows.specs.Closure.{HasSameMembers, closure}
+use Rattle.sparse_rows.specs.Closure.{flagged, HasSameMembers, closure}
 use Rattle.peeling.specs.declared.peeler.Peeler.TheInside.{Inside}
-use Rattle.peeling.specs.Decoder.{Decoder, flagged}
+use Rattle.peeling.specs.Decoder.{Decoder}
 use Rattle.peeling.specs.Peeled.{IsLaid}
 
 -- the decoder, its symbols being the bytes one after the other

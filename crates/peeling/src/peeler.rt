@@ -1,6 +1,7 @@
 // The decoder.
 ghost use Rattle.std.specs.Prelude.{◌≡◌, ◌↔◌, ◌<◌, ◌≤◌, true, false, [], IsTrue, IsSome, IfSome, IfOk, IfErr, length};
-ghost use Rattle.peeling.specs.Decoder.{flagged, set_count, kept, HasAllSource, IsDecoder, IsEmpty};
+ghost use Rattle.sparse_rows.specs.Closure.{flagged};
+ghost use Rattle.peeling.specs.Decoder.{set_count, kept, HasAllSource, IsDecoder, IsEmpty};
 ghost use Rattle.peeling.specs.Stands.{StandsFor, Receives};
 ghost use Rattle.peeling.specs.Outcome.{IsOutcome};
 ghost use Rattle.peeling.specs.Blank.{IsBlank};

@@ -2,7 +2,8 @@
 ghost use Rattle.std.specs.Prelude.{◌≡◌, ◌↔◌, ◌<◌, ◌≤◌, ◌-◌, true, false, IsTrue, length};
 ghost use Rattle.std.specs.Vec.{vec_capacity};
 ghost use Rattle.sparse_rows.specs.Matrix.{IsCode, row_of};
-ghost use Rattle.peeling.specs.Decoder.{flagged, new_positions};
+ghost use Rattle.sparse_rows.specs.Closure.{flagged};
+ghost use Rattle.peeling.specs.Decoder.{new_positions};
 ghost use Rattle.peeling.specs.Peeled.{IsLaid, unset_count, IsAtRest, IsPeeledOut, PeelsTo, RowsHold};
 
 use crate::rows::{only_unknown, row_holds, sum_row};

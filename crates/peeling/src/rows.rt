@@ -2,7 +2,7 @@
 ghost use Rattle.std.specs.Prelude.{◌≡◌, ◌↔◌, ◌<◌, ◌≤◌, ◌-◌, ◌*◌, IsTrue, length};
 ghost use Rattle.sparse_rows.specs.Matrix.{IsCode, row_of};
 ghost use Rattle.sparse_rows.specs.Symbol.{xor_sum};
-ghost use Rattle.peeling.specs.Decoder.{flagged};
+ghost use Rattle.sparse_rows.specs.Closure.{flagged};
 ghost use Rattle.peeling.specs.Peeled.{laid, IsLaid, IsSingle, IsKnownRow, RowHolds};
 
 use crate::symbols::{is_zero, symbol_at, xor_into};

@@ -1,8 +1,12 @@
 pub mod Algebra
 pub mod Planes
+pub mod Parity
 pub mod Symbols
 pub mod Shape
+pub mod Sets
 pub mod Agree
+pub mod Closed
+pub mod Null
 pub mod Encode
 pub mod Rising
 pub mod Built

@@ -27,6 +27,10 @@ last_alone p (x ∷ y ∷ ys) rising (suc k, lt, e) within =
     let f : ltb x p ≡ true = lt-ltb x p (omega arith) in
     rw f (last_alone p (y ∷ ys) (rising_tail x (y ∷ ys) rising) (k, le_of_suc-le-suc lt, e) (All-tail (λ c. c ≤ p) x (y ∷ ys) within))
 
+-- each column of a row is below n
+pub row_below : (m : Matrix) → HasShape m → (i : ℕ) → i < length m.rows → All (λ c. c < m.n) (get_or m.rows i [])
+row_below m shape i h k d lt = let r = (shape.row i h).within k d lt in let e = shape.count in omega arith
+
 -- row i has no column from k + i on but k + i
 pub last_outside : (m : Matrix) → HasShape m → (i : ℕ) → i < length m.rows → outside (below (m.k + i)) (get_or m.rows i []) ≡ (m.k + i) ∷ []
 last_outside m shape i h = let r = shape.row i h in last_alone (m.k + i) (get_or m.rows i []) r.rising r.holds r.within

@@ -1,11 +1,15 @@
 -- The peeling closure of a set of columns. A set of columns is a test.
-use Rattle.std.specs.Prelude.{◌≡◌, ℕ, zero, suc, ◌==◌, ◌&&◌, ◌||◌, not, Bool, true, false, List, [], ◌∷◌, filter}
+use Rattle.std.specs.Prelude.{◌≡◌, ℕ, zero, suc, ◌==◌, ◌&&◌, ◌||◌, not, Bool, true, false, List, [], ◌∷◌, filter, slice_index_or}
 use Rattle.std.specs.List.{list_any, range_with_len}
 use Rattle.sparse_rows.specs.Matrix.{Matrix}
 
 -- a set of columns
 abbrev pub Set : Type 0
 Set = ℕ → Bool
+
+-- the set of the columns whose flag is set
+abbrev pub flagged : List Bool → Set
+flagged flags column = slice_index_or flags column false
 
 -- each member of the one set is a member of the other
 abbrev pub IsWithin : Set → Set → Type 0

@@ -1,4 +1,4 @@
-use Rattle.peeling.proofs.Sets.{rounds_hold, rounds_within, rounds_grow}
+use Rattle.sparse_rows.proofs.Sets.{rounds_hold, rounds_within, rounds_grow}
 use Rattle.peeling.proofs.Closure.{closure_rests, closure_none, closure_full}
 use Rattle.peeling.proofs.laws.closure_is_least.Goals as goal
 

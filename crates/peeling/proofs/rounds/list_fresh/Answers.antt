@@ -1,6 +1,6 @@
 use Rattle.std.proofs.Common.{◌≤◌, ◌&&◌, not, length, ap, ap₂, ◌∙◌, arith}
 use Rattle.std.specs.Vec.{vec_capacity}
-use Rattle.peeling.specs.Decoder.{flagged}
+use Rattle.sparse_rows.specs.Closure.{flagged}
 use Rattle.peeling.proofs.Flags.{members_few, fresh_one, fresh_none}
 use Rattle.peeling.proofs.rounds.list_fresh.Goals as goal
 use Rattle.peeling.proofs.rounds.list_fresh.Goals.{then-known-position+then-not-before-position, else-known-position, else-known-position-via-then-known-position+else-not-before-position, else-known-position-via-else-known-position}

@@ -1,7 +1,6 @@
 use Rattle.std.proofs.Common.{◌≡◌, ◌&&◌, not}
 use Rattle.std.specs.Vec.{vec_capacity}
-use Rattle.sparse_rows.specs.Closure.{members}
-use Rattle.peeling.specs.Decoder.{flagged}
+use Rattle.sparse_rows.specs.Closure.{flagged, members}
 use Rattle.peeling.proofs.rounds.list_fresh.Given as goal
 
 abbrev pub invariant-loop-position : goal.invariant-loop-position

@@ -1,5 +1,5 @@
 use Rattle.std.proofs.Common.{arith, le_refl}
-use Rattle.peeling.specs.Decoder.{flagged}
+use Rattle.sparse_rows.specs.Closure.{flagged}
 use Rattle.peeling.specs.Peeled.{laid}
 use Rattle.peeling.proofs.Peeled.{peeled_none, peeled_on}
 use Rattle.peeling.proofs.rounds.peel.Goals as goal

@@ -1,5 +1,5 @@
 use Rattle.std.proofs.Common.{◌≤◌}
-use Rattle.peeling.specs.Decoder.{flagged}
+use Rattle.sparse_rows.specs.Closure.{flagged}
 use Rattle.peeling.specs.Peeled.{laid, IsLaid, IsPeeled, unset_count}
 use Rattle.peeling.proofs.rounds.peel.Given as goal
 

@@ -1,6 +1,6 @@
 use Rattle.std.proofs.Common.{◌<◌, arith}
 use Rattle.sparse_rows.proofs.Symbols.{symbol_room}
-use Rattle.peeling.specs.Decoder.{flagged}
+use Rattle.sparse_rows.specs.Closure.{flagged}
 use Rattle.peeling.specs.Peeled.{laid}
 use Rattle.peeling.proofs.Columns.{single_below}
 use Rattle.peeling.proofs.Peeled.{peeled_none, row_laid, row_less, row_peeled}

@@ -3,7 +3,7 @@ use Rattle.std.proofs.Common.{◌≡◌, ◌<◌, ℕ, List, [], true, All, leng
 use Rattle.std.proofs.lemmas.List.Elements.{All-from_get_or}
 use Rattle.sparse_rows.specs.Matrix.{row_of}
 use Rattle.sparse_rows.specs.Codeword.{SumsToZero}
-use Rattle.peeling.specs.Decoder.{flagged}
+use Rattle.sparse_rows.specs.Closure.{flagged}
 use Rattle.peeling.specs.Peeled.{laid}
 use Rattle.peeling.proofs.rounds.rows_hold.Goals as goal
 

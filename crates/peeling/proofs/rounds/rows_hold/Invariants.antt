@@ -1,7 +1,7 @@
 use Rattle.std.proofs.Common.{◌≡◌, ◌<◌, ◌≤◌, ℕ, true, All}
 use Rattle.sparse_rows.specs.Matrix.{row_of}
 use Rattle.sparse_rows.specs.Codeword.{SumsToZero}
-use Rattle.peeling.specs.Decoder.{flagged}
+use Rattle.sparse_rows.specs.Closure.{flagged}
 use Rattle.peeling.specs.Peeled.{laid}
 use Rattle.peeling.proofs.rounds.rows_hold.Given as goal
 

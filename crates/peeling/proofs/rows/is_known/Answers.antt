@@ -1,6 +1,6 @@
 use Rattle.std.proofs.Common.{◌≡◌, ◌<◌, ℕ, List, true, All, length, refl, subst, arith}
 use Rattle.sparse_rows.specs.Matrix.{row_of}
-use Rattle.peeling.specs.Decoder.{flagged}
+use Rattle.sparse_rows.specs.Closure.{flagged}
 use Rattle.peeling.proofs.Columns.{column_read, all_more, all_read}
 use Rattle.peeling.proofs.rows.is_known.Goals as goal
 

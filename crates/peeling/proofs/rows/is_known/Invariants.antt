@@ -1,6 +1,6 @@
 use Rattle.std.proofs.Common.{◌≡◌, ◌≤◌, true, All, take}
 use Rattle.sparse_rows.specs.Matrix.{row_of}
-use Rattle.peeling.specs.Decoder.{flagged}
+use Rattle.sparse_rows.specs.Closure.{flagged}
 use Rattle.peeling.proofs.rows.is_known.Given as goal
 
 abbrev pub invariant-loop-i : goal.invariant-loop-i

@@ -1,6 +1,6 @@
 use Rattle.std.proofs.Common.{◌<◌, length, sym, ◌∙◌, arith}
 use Rattle.sparse_rows.specs.Matrix.{row_of}
-use Rattle.peeling.specs.Decoder.{flagged}
+use Rattle.sparse_rows.specs.Closure.{flagged}
 use Rattle.peeling.proofs.Columns.{column_read, two_outside}
 use Rattle.peeling.proofs.rows.only_unknown.Goals as goal
 

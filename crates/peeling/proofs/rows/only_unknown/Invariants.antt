@@ -1,7 +1,6 @@
 use Rattle.std.proofs.Common.{◌≡◌, ◌≤◌, take, option_to_list}
 use Rattle.sparse_rows.specs.Matrix.{row_of}
-use Rattle.sparse_rows.specs.Closure.{outside}
-use Rattle.peeling.specs.Decoder.{flagged}
+use Rattle.sparse_rows.specs.Closure.{flagged, outside}
 use Rattle.peeling.proofs.rows.only_unknown.Given as goal
 
 abbrev pub invariant-loop-i : goal.invariant-loop-i

@@ -1,6 +1,5 @@
 use Rattle.std.proofs.Common.{◌+◌, ◌*◌, ◌++◌, ◌&&◌, not, true, length, Bool, ℕ, List, set, take, drop, ap, ◌∙◌}
-use Rattle.sparse_rows.specs.Closure.{members}
-use Rattle.peeling.specs.Decoder.{flagged}
+use Rattle.sparse_rows.specs.Closure.{flagged, members}
 use Rattle.peeling.proofs.Laid.{bytes_small}
 use Rattle.peeling.proofs.Stored.{start_laid, new_stored, new_receives}
 use Rattle.peeling.proofs.peeler.Peeler.take_new.Goals as goal
