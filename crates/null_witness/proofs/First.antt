@@ -18,7 +18,7 @@ xor_same true false e = absurd (true≢false e)
 xor_same false true e = absurd (true≢false e)
 xor_same false false e = refl
 
-xor_one : (x y : Bool) → bool_xor x y ≡ true → ((x ≡ true) × (y ≡ false)) ⊎ ((x ≡ false) × (y ≡ true))
+pub xor_one : (x y : Bool) → bool_xor x y ≡ true → ((x ≡ true) × (y ≡ false)) ⊎ ((x ≡ false) × (y ≡ true))
 unfolding bool_xor
 xor_one true true e = absurd (true≢false (sym e))
 xor_one true false e = inl (refl, refl)

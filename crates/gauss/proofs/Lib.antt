@@ -1,0 +1,10 @@
+pub mod Products
+pub mod Reduced
+pub mod Stages
+pub mod Answered
+pub mod Unique
+pub mod Steps
+pub mod ReadOff
+pub mod Merging
+pub mod Added
+pub mod Building

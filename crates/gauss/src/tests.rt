@@ -1,0 +1,135 @@
+ghost use Rattle.std.specs.Prelude.{◌≡◌, ◌≢◌, ◌≤◌, ◌<◌, ◌+◌, ℕ, [], length, IfOk, OnOk};
+ghost use Rattle.gauss.specs.Equations.{equation_at};
+
+use crate::{Answer, Equations, solve};
+use fec_base::NoMemory;
+use std::alloc::Global;
+use std::process::Abort;
+use std::test::Fail;
+
+fn byte_of(number: u32) -> u8 {
+    (number % 256) as u8
+}
+
+// Makes equation r, which has no unknown, that of the unknowns from `first` to before `end`.
+fn put_equation(eqs: &mut Equations, r: u32, first: u32, end: u32, sum: u8) -> Result<(), NoMemory>
+    requires equation { r < length eqs.old.equations }
+    requires end { end ≤ eqs.old.unknowns }
+    requires empty { (equation_at eqs.old r).unknowns ≡ [] }
+    requires len { eqs.old.len ≡ 1 }
+    ensures unknowns { OnOk result (eqs.new.unknowns ≡ eqs.old.unknowns) }
+    ensures len { OnOk result (eqs.new.len ≡ 1) }
+    ensures count { OnOk result (length eqs.new.equations ≡ length eqs.old.equations) }
+    ensures others { (j : ℕ) → j ≢ r → OnOk result (equation_at eqs.new j ≡ equation_at eqs.old j) }
+{
+    for unknown in first..end {
+        eqs.add_column(r, unknown)?;
+    }
+    eqs.set_sum(r, &[sum]);
+    Ok(())
+}
+
+// So many equations in u unknowns of one byte. Of the first `rows` of them, number i is of the unknowns
+// from i to before i + width, with the sum i where the width is 1, and else zero.
+fn band(
+    alloc: Global,
+    unknowns: u32,
+    equations: u32,
+    rows: u32,
+    width: u32,
+) -> Result<Equations, NoMemory>
+    requires unknowns { unknowns ≤ 65536 }
+    requires equations { equations ≤ 65536 }
+    requires rows { rows ≤ equations }
+    requires width { rows + width ≤ unknowns + 1 }
+    ensures unknowns { IfOk result (λ eqs. eqs.unknowns ≡ unknowns) }
+    ensures len { IfOk result (λ eqs. eqs.len ≡ 1) }
+    ensures count { IfOk result (λ eqs. length eqs.equations ≡ equations) }
+    ensures empty { (j : ℕ) → rows ≤ j → IfOk result (λ eqs. (equation_at eqs j).unknowns ≡ []) }
+{
+    let mut eqs = Equations::new(alloc, unknowns, equations, 1)?;
+    for i in 0..rows {
+        let sum = if width == 1 { byte_of(i) } else { 0 };
+        put_equation(&mut eqs, i, i, i + width, sum)?;
+    }
+    Ok(eqs)
+}
+
+// Whether unknown i is i, for all of them.
+fn is_counted(answer: &Answer, unknowns: u32) -> bool {
+    let Answer::One(values) = answer else {
+        return false;
+    };
+    if values.symbols.len() != unknowns as usize {
+        return false;
+    }
+    for i in 0..unknowns {
+        if values.symbol(i) != [byte_of(i)].as_slice() {
+            return false;
+        }
+    }
+    true
+}
+
+// Whether the answer is the null set of the unknowns from `first` to before `end`.
+fn is_null_from(answer: &Answer, first: u32, end: u32) -> bool {
+    match answer {
+        Answer::Free(set) => set.positions().iter().copied().eq(first..end),
+        _ => false,
+    }
+}
+
+const SIZES: [u32; 6] = [1, 63, 64, 65, 128, 129];
+
+#[test]
+fn an_equation_for_each_unknown_gives_it(rt: HostRuntime) -> Result<(), Fail> {
+    for u in SIZES {
+        let answer = solve(rt.alloc(), band(rt.alloc(), u, u, u, 1)?)?;
+        assert!(rt; is_counted(&answer, u));
+    }
+    Ok(())
+}
+
+#[test]
+fn an_unknown_without_an_equation_is_free(rt: HostRuntime) -> Result<(), Fail> {
+    for u in SIZES {
+        let answer = solve(rt.alloc(), band(rt.alloc(), u, u - 1, u - 1, 1)?)?;
+        assert!(rt; is_null_from(&answer, u - 1, u));
+        let answer = solve(rt.alloc(), band(rt.alloc(), u, 0, 0, 1)?)?;
+        assert!(rt; is_null_from(&answer, 0, 1));
+    }
+    Ok(())
+}
+
+#[test]
+fn neighbours_that_are_equal_are_free_together(rt: HostRuntime) -> Result<(), Fail> {
+    for u in SIZES {
+        let answer = solve(rt.alloc(), band(rt.alloc(), u, u - 1, u - 1, 2)?)?;
+        assert!(rt; is_null_from(&answer, 0, u));
+    }
+    Ok(())
+}
+
+// The sum of the bytes of the numbers below u.
+fn sum_below(u: u32) -> u8 {
+    let mut sum = 0;
+    for i in 0..u {
+        sum ^= byte_of(i);
+    }
+    sum
+}
+
+#[test]
+fn an_equation_too_many_agrees_or_clashes(rt: HostRuntime) -> Result<(), Fail> {
+    for u in SIZES {
+        let mut eqs = band(rt.alloc(), u, u + 1, u, 1)?;
+        put_equation(&mut eqs, u, 0, u, sum_below(u))?;
+        let answer = solve(rt.alloc(), eqs)?;
+        assert!(rt; is_counted(&answer, u));
+        let mut eqs = band(rt.alloc(), u, u + 1, u, 1)?;
+        put_equation(&mut eqs, u, 0, 1, 1)?;
+        let answer = solve(rt.alloc(), eqs)?;
+        assert!(rt; matches!(answer, Answer::Clash));
+    }
+    Ok(())
+}
