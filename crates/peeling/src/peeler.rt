@@ -169,6 +169,13 @@ impl Peeler {
         &self.code
     }
 
+    /// The length of a symbol.
+    pub fn symbol_len(&self) -> u32
+        ensures { result ≡ self.now.len }
+    {
+        self.len
+    }
+
     /// Whether the arrivals contradict one another: no symbols for the known positions agree with every
     /// arrival and make each row of known symbols sum to zero. From then on the bytes of newly rebuilt
     /// symbols mean nothing, while which positions are known stays exact.
