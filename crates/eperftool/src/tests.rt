@@ -8,6 +8,7 @@ use tool_base::Status;
 mod damaged;
 mod faults;
 mod refused;
+mod verdicts;
 
 const THREE_OF_SEVEN: [&str; 4] = ["encode", "--symbol=1", "--block=3", "--max-n=7"];
 

@@ -1,3 +1,12 @@
 pub mod Rows
 pub mod Filled
 pub mod SingleParity
+pub mod Sources
+pub mod Feeding
+pub mod Columns
+pub mod Places
+pub mod Opened
+pub mod Assembled
+pub mod Gathered
+pub mod Residues
+pub mod Verdicts

@@ -4,7 +4,10 @@ ghost use Rattle.sparse_rows.specs.Closure.{flagged};
 ghost use Rattle.peeling.specs.Decoder.{kept, HasAllSource, IsDecoder, IsEmpty};
 ghost use Rattle.peeling.specs.Stands.{StandsFor, Receives};
 ghost use Rattle.peeling.specs.Outcome.{IsOutcome};
+ghost use Rattle.fec_session.specs.Verdict.{Decides, Holds};
 
+use crate::finish::{Residual, eliminate};
+use crate::{SourceBlock, Verdict};
 use fec_base::{Ledger, NoMemory, Steps};
 use peeling::{Arrival, Peeler};
 use sparse_rows::Code;
@@ -111,6 +114,13 @@ impl Core {
         self.peeler.code()
     }
 
+    /// The length of a symbol.
+    pub fn symbol_len(&self) -> u32
+        ensures { result ≡ self.now.len }
+    {
+        self.peeler.symbol_len()
+    }
+
     /// Whether the arrivals contradict one another as far as peeling goes: by a repeat with other
     /// bytes, or by a row whose symbols are all known and do not sum to zero. Once true it stays
     /// true. Where it is false, it may still be that no codeword fits.
@@ -118,5 +128,30 @@ impl Core {
         ensures { result ≡ self.now.clashed }
     {
         self.peeler.clashed()
+    }
+
+    /// What the symbols that arrived determine: peeling first, and then elimination of what it leaves.
+    /// `NoMemory` hands the core back as it was.
+    pub fn finish(self, alloc: Global) -> Result<Verdict, (Core, NoMemory)>
+        ensures verdict { IfOk result (Decides self) }
+        ensures holds { IfOk result (Holds self) }
+        ensures err { IfErr result (λ refused. refused.0 ≡ self) }
+    {
+        // The call of `code` tells what holds of each decoder.
+        prove!(self.code().k() <= self.code().n());
+        if self.clashed() {
+            return Ok(Verdict::NoCodeword(self));
+        }
+        if self.has_all_source() {
+            return Ok(Verdict::Block(SourceBlock::peeled(self)));
+        }
+        match eliminate(alloc, &self) {
+            Ok(Residual::Clash) => Ok(Verdict::NoCodeword(self)),
+            Ok(Residual::Solved(columns, values)) => {
+                Ok(Verdict::Block(SourceBlock::solved(self, &columns, &values)))
+            }
+            Ok(Residual::Open(word)) => Ok(Verdict::Undetermined(self, word)),
+            Err(refused) => Err((self, refused)),
+        }
     }
 }

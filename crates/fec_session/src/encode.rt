@@ -116,7 +116,7 @@ fn symbol_at(bytes: &[u8], len: usize, i: usize) -> &[u8]
 }
 
 // Adds a symbol to another.
-fn xor_into(dst: &mut [u8], src: &[u8])
+pub(crate) fn xor_into(dst: &mut [u8], src: &[u8])
     requires { length dst.old ≡ length src.now }
     ensures { dst.new ≡ xor dst.old src.now }
 {
