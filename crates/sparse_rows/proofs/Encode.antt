@@ -4,13 +4,14 @@ use Rattle.sparse_rows.proofs.Agree.{agree_source}
 use Rattle.std.proofs.lemmas.List.{get_or-take, ext_get_or, get_or_past, get_or_append_left, append_assoc}
 use Rattle.std.proofs.Math.Seq.{get_or-append_seam, take-append_seam}
 use Rattle.std.proofs.lemmas.List.Elements.{All-push, All-from_get_or}
-use Rattle.sparse_rows.specs.Symbol.{IsSymbol, zero_symbol, xor_sum}
+use Rattle.fec_base.specs.Symbol.{IsSymbol, zero_symbol, xor_sum}
 use Rattle.sparse_rows.specs.Matrix.{Matrix, HasShape}
 use Rattle.sparse_rows.specs.Codeword.{symbol_at, SumsToZero, IsAssignment, IsEncoded}
 use Rattle.sparse_rows.specs.Closure.{outside}
 use Rattle.sparse_rows.proofs.Algebra.{closes}
 use Rattle.sparse_rows.proofs.Shape.{below, last_outside}
-use Rattle.sparse_rows.proofs.Planes.{same_bytes, plane_zero, byte, byte_laws, byte_sum, byte_zero, zero_from_planes, zero_is_symbol, xor_is_symbol, symbol_at_is}
+use Rattle.fec_base.proofs.SymbolBytes.{same_bytes, byte, byte_zero}
+use Rattle.sparse_rows.proofs.Planes.{plane_zero, byte_laws, byte_sum, zero_from_planes, zero_is_symbol, xor_is_symbol, symbol_at_is}
 
 -- the word with, for each row in turn, the sum of the row's symbols so far
 abbrev pub extend : ℕ → List (List ℕ) → List (List ℕ) → List (List ℕ)

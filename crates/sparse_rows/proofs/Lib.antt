@@ -7,8 +7,11 @@ pub mod Sets
 pub mod Agree
 pub mod Closed
 pub mod Null
+pub mod Increasing
 pub mod Encode
 pub mod Rising
 pub mod Built
 pub mod Flat
+pub mod Transposed
+pub mod Entries
 pub mod Tested

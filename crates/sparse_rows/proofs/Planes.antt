@@ -1,41 +1,17 @@
 -- A sum of symbols is zero where the sum of their bytes is, at each place.
-use Rattle.std.proofs.Common.{⊎_elim, ◌≡◌, ℕ, zero, suc, ◌<◌, List, [], ◌∷◌, length, get_or, All, refl, sym, ap, ◌∙◌, arith, bit_xor}
+use Rattle.std.proofs.Common.{⊎_elim, ◌≡◌, ℕ, ◌<◌, List, [], ◌∷◌, length, All, sym, ap, ◌∙◌, arith, bit_xor}
 use Rattle.std.specs.Int.Bits.{xor_self, xor_zero_l, xor_assoc}
 use Rattle.std.proofs.lemmas.Nat.{xor_comm, xor_of_8}
-use Rattle.std.proofs.lemmas.List.{ext_get_or, get_or_past}
+use Rattle.std.proofs.lemmas.List.{get_or_past}
 use Rattle.std.proofs.lemmas.List.Elements.{All-nil, All-cons, All-head, All-tail, All-replicate}
 use Rattle.std.proofs.lemmas.Bool.{cases_lt}
-use Rattle.sparse_rows.specs.Symbol.{IsSymbol, xor, zero_symbol, xor_sum}
+use Rattle.fec_base.proofs.SymbolBytes.{byte, byte_xor, byte_zero, length_xor, length_zero, same_bytes}
+use Rattle.fec_base.specs.Symbol.{IsSymbol, xor, zero_symbol, xor_sum}
 use Rattle.sparse_rows.specs.Codeword.{symbol_at, SumsToZero, IsAssignment}
 use Rattle.sparse_rows.proofs.Algebra.{XorLaws, total}
 
 pub byte_laws : XorLaws ℕ 0 bit_xor
 byte_laws = record { left = xor_zero_l; comm = xor_comm; assoc = xor_assoc; self = xor_self }
-
--- the byte of a symbol at a place
-abbrev pub byte : ℕ → List ℕ → ℕ
-byte j s = get_or s j 0
-
-pub length_xor : (s t : List ℕ) → length s ≡ length t → length (xor s t) ≡ length s
-length_xor [] t e = refl
-length_xor (a ∷ s) [] e = absurd (omega arith)
-length_xor (a ∷ s) (b ∷ t) e = ap suc (length_xor s t (omega arith))
-
-pub byte_xor : (s t : List ℕ) → length s ≡ length t → (j : ℕ) → byte j (xor s t) ≡ bit_xor (byte j s) (byte j t)
-byte_xor [] [] e j = refl
-byte_xor [] (b ∷ t) e j = absurd (omega arith)
-byte_xor (a ∷ s) [] e j = absurd (omega arith)
-byte_xor (a ∷ s) (b ∷ t) e zero = refl
-byte_xor (a ∷ s) (b ∷ t) e (suc j) = byte_xor s t (omega arith) j
-
-pub byte_zero : (len j : ℕ) → byte j (zero_symbol len) ≡ 0
-byte_zero zero j = refl
-byte_zero (suc len) zero = refl
-byte_zero (suc len) (suc j) = byte_zero len j
-
-pub length_zero : (len : ℕ) → length (zero_symbol len) ≡ len
-length_zero zero = refl
-length_zero (suc len) = ap suc (length_zero len)
 
 -- each column has len bytes
 abbrev pub HasLength : ℕ → (ℕ → List ℕ) → Type 0
@@ -48,9 +24,6 @@ length_sum len x h (c ∷ cs) = length_xor (x c) (xor_sum len x cs) (h c ∙ sym
 pub byte_sum : (len : ℕ) (x : ℕ → List ℕ) → HasLength len x → (j : ℕ) (cs : List ℕ) → byte j (xor_sum len x cs) ≡ total 0 bit_xor (λ c. byte j (x c)) cs
 byte_sum len x h j [] = byte_zero len j
 byte_sum len x h j (c ∷ cs) = byte_xor (x c) (xor_sum len x cs) (h c ∙ sym (length_sum len x h cs)) j ∙ ap (bit_xor (byte j (x c))) (byte_sum len x h j cs)
-
-pub same_bytes : (s t : List ℕ) → length s ≡ length t → ((j : ℕ) → byte j s ≡ byte j t) → s ≡ t
-same_bytes s t e h = ext_get_or 0 s t e (λ j lt. h j)
 
 pub plane_zero : (len : ℕ) (x : ℕ → List ℕ) → HasLength len x → (row : List ℕ) → SumsToZero len x row → (j : ℕ) → total 0 bit_xor (λ c. byte j (x c)) row ≡ 0
 plane_zero len x h row e j = sym (byte_sum len x h j row) ∙ ap (byte j) e ∙ byte_zero len j

@@ -6,7 +6,7 @@ use Rattle.std.proofs.lemmas.List.{get_or-take, get_or-drop}
 use Rattle.std.proofs.lemmas.List.Elements.{All-head, All-tail, All-cons, All-append, All-filter, All-from_get_or, filter-append, filter_passes}
 use Rattle.std.proofs.lemmas.List.Sums.{sum_by-cons}
 use Rattle.std.proofs.lemmas.List.Kept.{IsStrictlyIncreasing-filter, AllPairs-from_increasing}
-use Rattle.sparse_rows.specs.Matrix.{with_column, has_column}
+use Rattle.sparse_rows.specs.Matrix.{with_column, is_in}
 use Rattle.sparse_rows.specs.Rows.{IsRising}
 use Rattle.sparse_rows.proofs.Shape.{rising_tail}
 
@@ -57,7 +57,7 @@ pub insert-is_with_column : (c i : ℕ) (row : List ℕ) → Below c (take i row
 insert-is_with_column c i row below above = sym (with_column_between c (take i row) (drop i row) below above) ∙ ap (with_column c) (take-append-drop i row)
 
 -- the columns before a place of a rising row, and those after it
-before_place : (row : List ℕ) (i : ℕ) → IsStrictlyIncreasing row → i < length row → Below (get_or row i 0) (take i row)
+pub before_place : (row : List ℕ) (i : ℕ) → IsStrictlyIncreasing row → i < length row → Below (get_or row i 0) (take i row)
 before_place row i rising lt = All-from_get_or (λ x. x < get_or row i 0) (take i row) 0
     (λ j inside. let first : j < i = omega (arith, inside, length-take i row) in rw (get_or-take i row j 0 first) (AllPairs-from_increasing row rising j i 0 first lt))
 
@@ -101,24 +101,24 @@ with_column_rises n c row lt h = record {
 }
 
 -- whether a row that has the column at a place has it
-pub has_column_held : (c i : ℕ) (row : List ℕ) → i < length row → get_or row i 0 ≡ c → has_column c row ≡ true
-has_column_held c i [] lt e = absurd (omega arith)
-has_column_held c zero (x ∷ row) lt e = rw (eq-eqb x c e) refl
-has_column_held c (suc i) (x ∷ row) lt e = or_later (eqb x c) (has_column_held c i row (omega arith) e)
+pub is_in_held : (c i : ℕ) (row : List ℕ) → i < length row → get_or row i 0 ≡ c → is_in row c ≡ true
+is_in_held c i [] lt e = absurd (omega arith)
+is_in_held c zero (x ∷ row) lt e = rw (eq-eqb x c e) refl
+is_in_held c (suc i) (x ∷ row) lt e = or_later (eqb x c) (is_in_held c i row (omega arith) e)
   where
-    or_later : (b : Bool) → has_column c row ≡ true → (b || has_column c row) ≡ true
+    or_later : (b : Bool) → is_in row c ≡ true → (b || is_in row c) ≡ true
     or_later true h = refl
     or_later false h = h
 
 -- a row with the lower columns on one side of a place and the higher ones on the other hasn't the column
-pub has_column_between : (c i : ℕ) (row : List ℕ) → Below c (take i row) → Above c (drop i row) → has_column c row ≡ false
-has_column_between c i row below above = ap (has_column c) (sym (take-append-drop i row)) ∙ absent (take i row) below
+pub is_in_between : (c i : ℕ) (row : List ℕ) → Below c (take i row) → Above c (drop i row) → is_in row c ≡ false
+is_in_between c i row below above = ap (λ columns. is_in columns c) (sym (take-append-drop i row)) ∙ absent (take i row) below
   where
-    past : (ys : List ℕ) → Above c ys → has_column c ys ≡ false
+    past : (ys : List ℕ) → Above c ys → is_in ys c ≡ false
     past [] h = refl
     past (y ∷ ys) h = rw (ne_eqb y c (λ e. let lt : c < y = All-head (λ x. c < x) y ys h in absurd (omega arith))) (past ys (All-tail (λ x. c < x) y ys h))
 
-    absent : (ys : List ℕ) → Below c ys → has_column c (ys ++ drop i row) ≡ false
+    absent : (ys : List ℕ) → Below c ys → is_in (ys ++ drop i row) c ≡ false
     absent [] h = past (drop i row) above
     absent (y ∷ ys) h = rw (ne_eqb y c (λ e. let lt : y < c = All-head (λ x. x < c) y ys h in absurd (omega arith))) (absent ys (All-tail (λ x. x < c) y ys h))
 
@@ -151,9 +151,9 @@ not_found_above (Ok i) c row F h = tt
 not_found_above (Err i) c row F h = above_place c i row h
 
 -- whether a search found the column is whether the row has it
-pub found_is : (r : Result ℕ ℕ) (c : ℕ) (row : List ℕ) → IfOk r (λ i. (i < length row) × (get_or row i 0 ≡ c)) → IfErr r (λ i. Below c (take i row)) → IfErr r (λ i. Above c (drop i row)) → is_ok r ≡ has_column c row
-found_is (Ok i) c row held below above = sym (has_column_held c i row held.0 held.1)
-found_is (Err i) c row held below above = sym (has_column_between c i row below above)
+pub found_is : (r : Result ℕ ℕ) (c : ℕ) (row : List ℕ) → IfOk r (λ i. (i < length row) × (get_or row i 0 ≡ c)) → IfErr r (λ i. Below c (take i row)) → IfErr r (λ i. Above c (drop i row)) → is_ok r ≡ is_in row c
+found_is (Ok i) c row held below above = sym (is_in_held c i row held.0 held.1)
+found_is (Err i) c row held below above = sym (is_in_between c i row below above)
 
 -- how many columns lie below c, where those do that stand before a place, and no others
 count_before : (c i : ℕ) (row : List ℕ) → i ≤ length row → Below c (take i row) → All (λ x. c ≤ x) (drop i row) → count_by (λ x. ltb x c) row ≡ i

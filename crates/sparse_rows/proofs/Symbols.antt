@@ -6,8 +6,9 @@ use Rattle.std.proofs.lemmas.Nat.{xor_comm}
 use Rattle.std.proofs.lemmas.List.{ext_get_or, drop-take}
 use Rattle.std.proofs.lemmas.List.Elements.{All-take, All-drop, All-from_get_or}
 use Rattle.std.proofs.lemmas.List.FromFn.{length-map-range_with_len, get_or-map-range_with_len, map-range_with_len_more}
-use Rattle.sparse_rows.specs.Symbol.{IsSymbol, xor, zero_symbol, xor_sum, symbols_of}
-use Rattle.sparse_rows.proofs.Planes.{HasLength, byte, byte_xor, byte_zero, length_xor, length_zero, length_sum, same_bytes}
+use Rattle.fec_base.specs.Symbol.{IsSymbol, xor, zero_symbol, xor_sum, symbols_of}
+use Rattle.fec_base.proofs.SymbolBytes.{byte, byte_xor, byte_zero, length_xor, length_zero, same_bytes}
+use Rattle.sparse_rows.proofs.Planes.{HasLength, length_sum}
 
 -- a front of a front
 pub take_take : (n m : ℕ) (xs : List ℕ) → n ≤ m → take n (take m xs) ≡ take n xs

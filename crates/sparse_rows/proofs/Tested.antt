@@ -1,12 +1,12 @@
 -- The shape of a matrix as a test, which computes where the rows are written out.
-use Rattle.std.proofs.Common.{◌≡◌, ℕ, zero, suc, ◌+◌, ◌<◌, ◌≤◌, Bool, true, ◌&&◌, List, [], ◌∷◌, length, get_or, All, Any, ltb, leb, eqb, ltb-true, leb-true, eqb-true, refl, sym, ap, subst, arith}
+use Rattle.std.proofs.Common.{◌≡◌, ℕ, zero, suc, ◌+◌, ◌<◌, Bool, true, ◌&&◌, List, [], ◌∷◌, length, get_or, ltb, leb, eqb, ltb-true, leb-true, eqb-true, subst, arith}
 use Rattle.std.specs.List.{list_any, list_all}
 use Rattle.std.specs.List.Sorted.{IsStrictlyIncreasing}
 use Rattle.std.proofs.lemmas.Bool.{and_parts}
 use Rattle.std.proofs.lemmas.List.Sums.{AllPass-from_list_all}
 use Rattle.std.proofs.lemmas.List.Folds.{Any-from_list_any}
 use Rattle.std.proofs.lemmas.Map.Views.{Contains-from_any}
-use Rattle.sparse_rows.specs.Matrix.{Matrix, IsRow, HasShape, row_of}
+use Rattle.sparse_rows.specs.Matrix.{Matrix, IsRow, HasShape}
 use Rattle.sparse_rows.proofs.Rising.{rising_cons}
 
 -- each column is below those after it

@@ -1,5 +1,6 @@
 -- The peeling closure of a set of columns. A set of columns is a test.
-use Rattle.std.specs.Prelude.{◌≡◌, ℕ, zero, suc, ◌==◌, ◌&&◌, ◌||◌, not, Bool, true, false, List, [], ◌∷◌, filter, slice_index_or}
+use Rattle.std.specs.Prelude.{◌≡◌, ℕ, zero, suc, ◌==◌, ◌&&◌, ◌||◌, not, Bool, true, false, List, []}
+use Rattle.std.specs.Prelude.{◌∷◌, filter, slice_index_or}
 use Rattle.std.specs.List.{list_any, range_with_len}
 use Rattle.sparse_rows.specs.Matrix.{Matrix}
 
@@ -52,4 +53,5 @@ adding column s c = s c || (column == c)
 
 -- what a column's arrival adds to the closure beside itself, rising
 abbrev pub fresh : Matrix → Set → ℕ → List ℕ
-fresh m s column = members m.n (λ c. closure m (adding column s) c && not (column == c) && not (closure m s c))
+fresh m s column = members m.n
+    (λ c. closure m (adding column s) c && not (column == c) && not (closure m s c))

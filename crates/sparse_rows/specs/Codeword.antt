@@ -1,7 +1,7 @@
 -- Codewords of a parity check matrix.
 use Rattle.std.specs.Prelude.{◌≡◌, ℕ, ◌==◌, Bool, true, List, length, take, slice_index_or, All}
 use Rattle.std.specs.List.{list_any}
-use Rattle.sparse_rows.specs.Symbol.{IsSymbol, zero_symbol, xor_sum}
+use Rattle.fec_base.specs.Symbol.{IsSymbol, zero_symbol, xor_sum}
 use Rattle.sparse_rows.specs.Matrix.{Matrix}
 
 -- the symbol at a column, zero past the end
@@ -29,7 +29,8 @@ IsAssignment len x = (column : ℕ) → IsSymbol len (x column)
 
 -- the symbols that x gives to each row that lies within the set sum to zero
 abbrev pub SumsToZeroWithin : Matrix → ℕ → (ℕ → Bool) → (ℕ → List ℕ) → Type 0
-SumsToZeroWithin m len t x = All (λ row. All (λ column. t column ≡ true) row → SumsToZero len x row) m.rows
+SumsToZeroWithin m len t x = All (λ row. All (λ column. t column ≡ true) row
+    → SumsToZero len x row) m.rows
 
 -- an arrival: a position and the bytes that came for it
 abbrev pub Arrival : Type 0

@@ -1,8 +1,9 @@
-pub mod Symbol
 pub mod Matrix
 pub mod Rows
 pub mod Codeword
 pub mod Closure
+pub mod Columns
 pub mod NullWord
 pub mod Fitting
+pub mod Determined
 pub mod Laws

@@ -1,5 +1,6 @@
 -- The parity check matrix of a code.
-use Rattle.std.specs.Prelude.{◌≡◌, ℕ, ◌+◌, ◌<◌, ◌≤◌, ◌==◌, nat_lt, Bool, List, [], ◌∷◌, ◌++◌, filter, length, slice_index_or, slice_set, All, Any, Contains}
+use Rattle.std.specs.Prelude.{◌≡◌, ℕ, ◌+◌, ◌<◌, ◌≤◌, ◌==◌, nat_lt, Bool, List, [], ◌∷◌, ◌++◌}
+use Rattle.std.specs.Prelude.{filter, length, slice_index_or, slice_set, All, Any, Contains}
 use Rattle.std.specs.List.{list_any}
 use Rattle.std.specs.List.Sorted.{IsStrictlyIncreasing}
 
@@ -31,17 +32,18 @@ pub record IsCode (m : Matrix) : Type 0 where
   pub most : m.n ≤ 65536
   pub shape : HasShape m
 
--- whether the row has column c
-abbrev pub has_column : ℕ → List ℕ → Bool
-has_column c row = list_any (λ column. column == c) row
+-- whether the column is one of the list
+abbrev pub is_in : List ℕ → ℕ → Bool
+is_in columns column = list_any (λ c. c == column) columns
 
 -- whether row r of the matrix has column c
 abbrev pub has_entry : Matrix → ℕ → ℕ → Bool
-has_entry m r c = has_column c (row_of m r)
+has_entry m r c = is_in (row_of m r) c
 
 -- the row with column c: the columns below c, c itself, and those above
 abbrev pub with_column : ℕ → List ℕ → List ℕ
-with_column c row = filter (λ column. nat_lt column c) row ++ c ∷ filter (λ column. nat_lt c column) row
+with_column c row = filter (λ column. nat_lt column c) row ++ c ∷ filter
+    (λ column. nat_lt c column) row
 
 -- the matrix whose row r has column c too
 abbrev pub with_entry : Matrix → ℕ → ℕ → Matrix

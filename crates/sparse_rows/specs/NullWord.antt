@@ -1,13 +1,8 @@
 -- Null words: codewords of bits that are zero where a symbol is known.
-use Rattle.std.specs.Prelude.{◌≡◌, ◌≢◌, ℕ, ◌%◌, ◌<◌, ◌≤◌, ◌==◌, false, List, [], ◌∷◌, All, count_by}
-use Rattle.std.specs.List.{list_any}
+use Rattle.std.specs.Prelude.{◌≡◌, ◌≢◌, ℕ, ◌%◌, ◌<◌, ◌≤◌, false, List, [], ◌∷◌, All, count_by}
 use Rattle.std.specs.List.Sorted.{IsStrictlyIncreasing}
-use Rattle.sparse_rows.specs.Matrix.{Matrix}
+use Rattle.sparse_rows.specs.Matrix.{Matrix, is_in}
 use Rattle.sparse_rows.specs.Closure.{Set}
-
--- the set of the columns of a list
-abbrev pub is_in : List ℕ → Set
-is_in columns column = list_any (λ c. c == column) columns
 
 -- some columns, rising, of which no one is in the set, and which each row has an even number of
 pub record IsNullWord (m : Matrix) (s : Set) (word : List ℕ) : Type 0 where

@@ -1,8 +1,9 @@
 // Rows that gain their columns one by one.
-ghost use Rattle.std.specs.Prelude.{◌≡◌, ◌<◌, ◌≤◌, ◌-◌, not, replicate, [], length, count_by, nat_lt, take, drop, slice_index, All, IfOk, IfErr, OnOk, OnErr};
+ghost use Rattle.std.specs.Prelude.{◌≡◌, ◌<◌, ◌≤◌, ◌-◌, not, replicate, [], length, count_by};
+ghost use Rattle.std.specs.Prelude.{nat_lt, take, drop, slice_index, All, IfOk, IfErr, OnOk, OnErr};
 ghost use Rattle.std.specs.List.Sorted.{IsStrictlyIncreasing};
 ghost use Rattle.sparse_rows.specs.Rows.{IsRising};
-ghost use Rattle.sparse_rows.specs.Matrix.{row_of, has_column, has_entry, with_column, with_entry};
+ghost use Rattle.sparse_rows.specs.Matrix.{row_of, is_in, has_entry, with_column, with_entry};
 
 use fec_base::NoMemory;
 use smallvec::SmallVec;
@@ -84,8 +85,9 @@ impl RowsBuilder {
 }
 
 // Rows without a column.
-fn empty_rows(alloc: Global, count: usize) -> Result<Vec<SmallVec<u32, 8>>, NoMemory>
-    ensures { IfOk result (λ rows. rows.items ≡ replicate count (record { items = []; capacity = 8 })) }
+pub(crate) fn empty_rows(alloc: Global, count: usize) -> Result<Vec<SmallVec<u32, 8>>, NoMemory>
+    ensures { IfOk result (λ rows. rows.items
+        ≡ replicate count (record { items = []; capacity = 8 })) }
 {
     let mut rows = Vec::with_capacity(alloc, count)?;
     for _ in 0..count {
@@ -112,7 +114,7 @@ fn place_of(row: &[u32], c: u32) -> Result<usize, usize>
 // Puts the column into the row, and says whether it was not there.
 fn insert_column(row: &mut SmallVec<u32, 8>, c: u32) -> Result<bool, NoMemory>
     requires { IsStrictlyIncreasing row.old.items }
-    ensures added { IfOk result (λ added. added ≡ not (has_column c row.old.items)) }
+    ensures added { IfOk result (λ added. added ≡ not (is_in row.old.items c)) }
     ensures ok { OnOk result (row.new.items ≡ with_column c row.old.items) }
     ensures err { OnErr result (row.new ≡ row.old) }
 {

@@ -2,14 +2,16 @@
 ghost use Rattle.std.specs.Prelude.{◌≡◌, ◌<◌, ◌≤◌, ◌+◌, ◌-◌, length, slice_index, sum_by, IfOk};
 ghost use Rattle.sparse_rows.specs.Matrix.{HasShape, IsCode, row_of};
 ghost use Rattle.sparse_rows.specs.Rows.{AreStarts, rows_of, lists_of};
+ghost use Rattle.sparse_rows.specs.Columns.{column_of};
 
 use crate::RowsBuilder;
+use crate::by_column::by_columns;
 use fec_base::{Ledger, NoMemory, Steps};
 use smallvec::SmallVec;
 use std::alloc::Global;
 use std::marker::Model;
 
-// Rows one after the other: row r has the columns from starts[r] to starts[r + 1].
+// Lists one after the other: list i has the items from starts[i] to starts[i + 1].
 #[derive(Drop)]
 struct Layout {
     starts: Vec<usize>,
@@ -18,7 +20,8 @@ struct Layout {
 
 fn lay_out(alloc: Global, rows: &[SmallVec<u32, 8>]) -> Result<Layout, NoMemory>
     ensures starts { IfOk result (λ layout. AreStarts layout.starts.items layout.columns.items) }
-    ensures rows { IfOk result (λ layout. rows_of layout.starts.items layout.columns.items ≡ lists_of rows.now) }
+    ensures rows { IfOk result (λ layout. rows_of layout.starts.items layout.columns.items
+        ≡ lists_of rows.now) }
 {
     let mut starts = Vec::with_capacity(alloc, rows.len() + 1)?;
     let mut columns = Vec::new(alloc);
@@ -40,17 +43,21 @@ pub struct Code {
     // Row r has the columns from starts[r] to starts[r + 1].
     starts: Vec<usize>,
     columns: Vec<u32>,
+    // Column c is in the rows from column_starts[c] to column_starts[c + 1].
+    column_starts: Vec<usize>,
+    column_rows: Vec<u32>,
 }
 
 impl Model for Code {
     ghost use Rattle.sparse_rows.specs.Matrix.{Matrix, IsCode};
-    ghost use Rattle.sparse_rows.specs.Rows.{matrix_of_starts, IsLaidOut};
+    ghost use Rattle.sparse_rows.specs.Rows.{matrix_of_starts, IsKept};
 
     ghost Value = { Matrix };
 
     ghost view = { λ a. matrix_of_starts a.k a.n a.starts.items a.columns.items };
 
-    ghost invariant = { λ a. IsLaidOut a.k a.n a.starts.items a.columns.items };
+    ghost invariant = { λ a. IsKept a.k a.n a.starts.items a.columns.items a.column_starts.items
+        a.column_rows.items };
 }
 
 impl Code {
@@ -60,12 +67,15 @@ impl Code {
         ensures { IfOk result (λ code. code ≡ b) }
     {
         let RowsBuilder { k, n, rows } = b;
-        let Layout { starts, columns } = lay_out(alloc, &rows)?;
+        let by_row = lay_out(alloc, &rows)?;
+        let by_column = lay_out(alloc, &by_columns(alloc, n as usize, &rows)?)?;
         Ok(Code {
             k,
             n,
-            starts,
-            columns,
+            starts: by_row.starts,
+            columns: by_row.columns,
+            column_starts: by_column.starts,
+            column_rows: by_column.columns,
         })
     }
 
@@ -78,6 +88,8 @@ impl Code {
             n: self.n,
             starts: Vec::from_slice(alloc, &self.starts)?,
             columns: Vec::from_slice(alloc, &self.columns)?,
+            column_starts: Vec::from_slice(alloc, &self.column_starts)?,
+            column_rows: Vec::from_slice(alloc, &self.column_rows)?,
         })
     }
 
@@ -123,7 +135,7 @@ impl Code {
         self.row(r)[i as usize]
     }
 
-    // The columns of row r.
+    // The columns of row r, rising.
     fn row(&self, r: u32) -> &[u32]
         requires { r < self.now.n - self.now.k }
         ensures value { result.now ≡ row_of self.now r }
@@ -132,5 +144,35 @@ impl Code {
         let starts = self.starts.as_slice();
         let columns = self.columns.as_slice();
         &columns[starts[r as usize]..starts[r as usize + 1]]
+    }
+
+    /// How many rows have column c.
+    pub fn col_len(&self, c: u32) -> u32
+        requires { c < self.now.n }
+        ensures { result ≡ length (column_of self.now c) }
+    {
+        self.column(c).len() as u32
+    }
+
+    /// The i-th row that has column c, counted from 0, by one step.
+    pub fn col_entry<L: Ledger>(&self, c: u32, i: u32, steps: &mut Steps<L>) -> u32
+        requires column { c < self.now.n }
+        requires place { i < length (column_of self.now c) }
+        ensures value { result ≡ slice_index (column_of self.now c) i }
+        ensures cost { steps.new ≡ steps.old + 1 }
+    {
+        steps.tick();
+        self.column(c)[i as usize]
+    }
+
+    // The rows that have column c.
+    fn column(&self, c: u32) -> &[u32]
+        requires { c < self.now.n }
+        ensures value { result.now ≡ column_of self.now c }
+        ensures short { length result.now ≤ 65536 }
+    {
+        let starts = self.column_starts.as_slice();
+        let rows = self.column_rows.as_slice();
+        &rows[starts[c as usize]..starts[c as usize + 1]]
     }
 }

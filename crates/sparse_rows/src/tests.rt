@@ -1,6 +1,8 @@
-ghost use Rattle.std.specs.Prelude.{◌≡◌, ◌<◌, ◌≤◌, ◌+◌, ◌-◌, nat_lt, replicate, fold, [], length, IsTrue, IfOk, OnOk};
+ghost use Rattle.std.specs.Prelude.{◌≡◌, ◌<◌, ◌≤◌, ◌+◌, ◌-◌, nat_lt, replicate, fold, [], length};
+ghost use Rattle.std.specs.Prelude.{IsTrue, IfOk, OnOk};
 ghost use Rattle.std.specs.List.{list_all};
 ghost use Rattle.sparse_rows.specs.Matrix.{row_of, with_entry};
+ghost use Rattle.sparse_rows.specs.Columns.{column_of};
 
 use crate::{Code, RowsBuilder};
 use fec_base::{Ledger, NoMemory, Steps, Tally};
@@ -10,6 +12,17 @@ use std::test::Fail;
 
 // The rows of a code of three source symbols and four repair symbols.
 const ROWS: [&[u32]; 4] = [&[0, 2, 3], &[1, 2, 3, 4], &[0, 1, 2, 4, 5], &[0, 1, 5, 6]];
+
+// Its columns: the rows that have them.
+const COLUMNS: [&[u32]; 7] = [
+    &[0, 2, 3],
+    &[1, 2, 3],
+    &[0, 1, 2],
+    &[0, 1],
+    &[1, 2],
+    &[2, 3],
+    &[3],
+];
 
 // The entries of these rows, as pairs of a row and a column, not in order.
 const ENTRIES: [(u32, u32); 16] = [
@@ -77,6 +90,10 @@ fn check_rows(rt: &impl Abort, alloc: Global, code: &Code) -> Result<(), Fail> {
         let found = row(alloc, code, r as u32, &mut steps)?;
         assert_eq!(rt; found.as_slice(), *columns, "row {r}");
     }
+    for (c, rows) in COLUMNS.iter().enumerate() {
+        let found = column(alloc, code, c as u32, &mut steps)?;
+        assert_eq!(rt; found.as_slice(), *rows, "column {c}");
+    }
     Ok(())
 }
 
@@ -128,7 +145,9 @@ fn filled(alloc: Global, k: u32, n: u32, entries: &[(u32, u32)]) -> Result<RowsB
     requires most { n ≤ 65536 }
     requires rows { IsTrue (list_all (λ entry. nat_lt entry.0 (n - k)) entries.now) }
     requires columns { IsTrue (list_all (λ entry. nat_lt entry.1 n) entries.now) }
-    ensures { IfOk result (λ rows. rows ≡ fold (λ m entry. with_entry m entry.0 entry.1) (record { k = k; n = n; rows = replicate (n - k) [] }) entries.now) }
+    ensures { IfOk result (λ rows. rows
+        ≡ fold (λ m entry. with_entry m entry.0 entry.1)
+        (record { k = k; n = n; rows = replicate (n - k) [] }) entries.now) }
 {
     let mut rows = RowsBuilder::new(alloc, k, n)?;
     for (r, c) in entries {
@@ -152,4 +171,21 @@ fn row<L: Ledger>(
         columns.push(code.row_entry(r, i, steps))?;
     }
     Ok(columns)
+}
+
+// The rows that have column c, by one step for each.
+fn column<L: Ledger>(
+    alloc: Global,
+    code: &Code,
+    c: u32,
+    steps: &mut Steps<L>,
+) -> Result<Vec<u32>, NoMemory>
+    requires { c < code.now.n }
+    ensures { OnOk result (steps.new ≡ steps.old + length (column_of code.now c)) }
+{
+    let mut rows = Vec::new(alloc);
+    for i in 0..code.col_len(c) {
+        rows.push(code.col_entry(c, i, steps))?;
+    }
+    Ok(rows)
 }

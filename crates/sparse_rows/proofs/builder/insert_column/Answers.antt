@@ -1,5 +1,5 @@
 use Rattle.std.proofs.Common.{not, ap, sym, ◌∙◌}
-use Rattle.sparse_rows.proofs.Rising.{with_column_held, insert-is_with_column, has_column_between}
+use Rattle.sparse_rows.proofs.Rising.{with_column_held, insert-is_with_column, is_in_between}
 use Rattle.sparse_rows.proofs.builder.insert_column.Goals as goal
 
 pub returns-in-Ok-clause-ok : goal.returns-in-Ok-clause-ok
@@ -7,7 +7,7 @@ returns-in-Ok-clause-ok c = let held = rw c.as_slice.ensures at c.in-Ok.ensures.
 
 pub returns-in_ok-insert-in-Err-clause-added : goal.returns-in_ok-insert-in-Err-clause-added
 returns-in_ok-insert-in-Err-clause-added c =
-    ap not (sym (has_column_between c.args.c c.in-Err.place c.args.row.now.items (rw c.as_slice.ensures at c.in-Err.ensures.below) (rw c.as_slice.ensures at c.in-Err.ensures.above)))
+    ap not (sym (is_in_between c.args.c c.in-Err.place c.args.row.now.items (rw c.as_slice.ensures at c.in-Err.ensures.below) (rw c.as_slice.ensures at c.in-Err.ensures.above)))
 
 pub returns-in_ok-insert-in-Err-clause-ok : goal.returns-in_ok-insert-in-Err-clause-ok
 returns-in_ok-insert-in-Err-clause-ok c =

@@ -13,6 +13,6 @@ pub returns : goal.returns
 returns c =
     let starts : List ℕ = c.self.inside.starts.items in
     let columns : List ℕ = c.self.inside.columns.items in
-    let here : length columns ≡ sum_by length (rows_of starts columns) = all_columns starts columns c.self.invariant.starts_rise in
+    let here : length columns ≡ sum_by length (rows_of starts columns) = all_columns starts columns c.self.invariant.by_rows.starts_rise in
     let long : c.len.result ≡ length columns = omega (arith, c.len.ensures, c.self.inside.columns.ok.0) in
     long ∙ here ∙ ap (λ (m : Matrix). sum_by length m.rows) c.self.view_is
