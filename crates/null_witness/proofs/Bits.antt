@@ -5,11 +5,12 @@ use Rattle.std.proofs.Math.Bool.{xor as bool_xor}
 use Rattle.std.proofs.lemmas.Bool.{cases_lt}
 use Rattle.std.proofs.lemmas.Nat.Bits.{bit_at_xor, bit_at-lt, bit_at-zero, same_from_bits_below}
 use Rattle.std.proofs.lemmas.List.{ext_get_or, get_or_past, get_or-take, length-take-le}
-use Rattle.sparse_rows.specs.Symbol.{IsSymbol, zero_symbol}
+use Rattle.fec_base.specs.Symbol.{IsSymbol, zero_symbol}
 use Rattle.sparse_rows.specs.Matrix.{Matrix, HasShape}
 use Rattle.sparse_rows.specs.Codeword.{symbol_at, IsCodeword}
 use Rattle.sparse_rows.proofs.Algebra.{total}
-use Rattle.sparse_rows.proofs.Planes.{byte, symbol_at_is}
+use Rattle.fec_base.proofs.SymbolBytes.{byte}
+use Rattle.sparse_rows.proofs.Planes.{symbol_at_is}
 use Rattle.sparse_rows.proofs.Shape.{last_or_before}
 
 -- either some number below n is of the one kind, or all are of the other

@@ -6,14 +6,15 @@ use Rattle.std.proofs.lemmas.List.{get_or_past}
 use Rattle.std.proofs.lemmas.Bool.{cases_lt, false_from_ne_true}
 use Rattle.std.proofs.lemmas.List.FromFn.{get_or-map-range_with_len, length-map-range_with_len}
 use Rattle.std.proofs.lemmas.List.Elements.{All-from_get_or, All-cons}
-use Rattle.sparse_rows.specs.Symbol.{IsSymbol, xor, zero_symbol}
-use Rattle.sparse_rows.specs.Matrix.{Matrix, HasShape}
+use Rattle.fec_base.specs.Symbol.{IsSymbol, xor, zero_symbol}
+use Rattle.sparse_rows.specs.Matrix.{Matrix, HasShape, is_in}
 use Rattle.sparse_rows.specs.Codeword.{Arrival, Fits, symbol_at, SumsToZero, IsAssignment, positions}
 use Rattle.sparse_rows.specs.Closure.{Set, members}
-use Rattle.sparse_rows.specs.NullWord.{IsNullWord, is_in}
+use Rattle.sparse_rows.specs.NullWord.{IsNullWord}
 use Rattle.sparse_rows.specs.Fitting.{IsFitting, IsUndetermined}
 use Rattle.sparse_rows.proofs.Algebra.{total, total_add, total_same, cancel}
-use Rattle.sparse_rows.proofs.Planes.{byte, byte_laws, byte_xor, plane_zero, zero_from_planes, zero_is_symbol, xor_is_symbol, symbol_at_is}
+use Rattle.fec_base.proofs.SymbolBytes.{byte, byte_xor}
+use Rattle.sparse_rows.proofs.Planes.{byte_laws, plane_zero, zero_from_planes, zero_is_symbol, xor_is_symbol, symbol_at_is}
 use Rattle.sparse_rows.proofs.Parity.{bit_laws}
 use Rattle.sparse_rows.proofs.Shape.{row_below}
 use Rattle.sparse_rows.proofs.Sets.{any_at, any_from}

@@ -2,14 +2,15 @@
 use Rattle.std.proofs.Common.{le_antisymm, true≢false, ⊎_elim, ◌≡◌, ℕ, ◌<◌, ◌≤◌, ◌⊎◌, inl, inr, Bool, true, false, List, [], length, get_or, All, refl, sym, ap₂, ◌∙◌}
 use Rattle.std.specs.List.{range_with_len}
 use Rattle.std.proofs.Math.Bool.{xor as bool_xor}
-use Rattle.sparse_rows.specs.Matrix.{Matrix}
+use Rattle.sparse_rows.specs.Matrix.{Matrix, is_in}
 use Rattle.sparse_rows.specs.Closure.{Set, members}
-use Rattle.sparse_rows.specs.NullWord.{IsNullWord, IsFirstNullWord, is_in, last_of}
+use Rattle.sparse_rows.specs.NullWord.{IsNullWord, IsFirstNullWord, last_of}
 use Rattle.sparse_rows.proofs.Algebra.{total_add}
 use Rattle.sparse_rows.proofs.Parity.{bit_laws}
 use Rattle.sparse_rows.proofs.Sets.{true_or_false}
 use Rattle.sparse_rows.proofs.Null.{in_all, null_even, null_of, null_outside, passes}
-use Rattle.null_witness.proofs.Increasing.{last_in, last_most, rising_same}
+use Rattle.sparse_rows.proofs.Increasing.{rising_same}
+use Rattle.null_witness.proofs.Increasing.{last_in, last_most}
 
 xor_same : (x y : Bool) → bool_xor x y ≡ false → x ≡ y
 unfolding bool_xor

@@ -8,7 +8,7 @@ use Rattle.std.proofs.lemmas.Bool.{cases_lt, false_from_ne_true}
 use Rattle.std.proofs.lemmas.Bool.Decides.{nat_tests}
 use Rattle.std.proofs.lemmas.Cmp.{ranked}
 use Rattle.std.proofs.lemmas.List.Sorted.{IsNonDecreasingBy-from_default}
-use Rattle.sparse_rows.specs.NullWord.{is_in}
+use Rattle.sparse_rows.specs.Matrix.{is_in}
 use Rattle.sparse_rows.proofs.Sets.{any_at}
 use Rattle.sparse_rows.proofs.Null.{in_at}
 use Rattle.sparse_rows.proofs.Shape.{last_or_before}

@@ -2,9 +2,9 @@
 use Rattle.std.proofs.Common.{true≢false, ◌≡◌, ℕ, true, false, List, sym, ◌∙◌}
 use Rattle.std.proofs.Math.Bool.{xor as bool_xor}
 use Rattle.std.proofs.lemmas.Bool.{false_from_ne_true}
-use Rattle.sparse_rows.specs.Matrix.{Matrix}
+use Rattle.sparse_rows.specs.Matrix.{Matrix, is_in}
 use Rattle.sparse_rows.specs.Closure.{Set, IsWithin, closure}
-use Rattle.sparse_rows.specs.NullWord.{IsNullWord, is_in}
+use Rattle.sparse_rows.specs.NullWord.{IsNullWord}
 use Rattle.sparse_rows.proofs.Algebra.{total_zero}
 use Rattle.sparse_rows.proofs.Parity.{bit_laws}
 use Rattle.sparse_rows.proofs.Closed.{agree_closure}

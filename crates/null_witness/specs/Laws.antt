@@ -8,17 +8,22 @@ use Rattle.sparse_rows.specs.Fitting.{IsFitting, IsUndetermined}
 
 -- a null word of a set is a null word of each of its subsets
 abbrev pub NullWordOfSubset : Type 0
-NullWordOfSubset = (m : Matrix) (small large : Set) (word : List ℕ) → IsWithin small large → IsNullWord m large word → IsNullWord m small word
+NullWordOfSubset = (m : Matrix) (small large : Set) (word : List ℕ) → IsWithin small large
+    → IsNullWord m large word → IsNullWord m small word
 
 -- a set and its closure have the same null words
 abbrev pub ClosureHasSameNullWords : Type 0
-ClosureHasSameNullWords = (m : Matrix) (s : Set) (word : List ℕ) → IsNullWord m s word ↔ IsNullWord m (closure m s) word
+ClosureHasSameNullWords = (m : Matrix) (s : Set) (word : List ℕ)
+    → IsNullWord m s word ↔ IsNullWord m (closure m s) word
 
 -- at most one null word is the first
 abbrev pub FirstNullWordIsOne : Type 0
-FirstNullWordIsOne = (m : Matrix) (s : Set) (word other : List ℕ) → HasShape m → IsFirstNullWord m s word → IsFirstNullWord m s other → word ≡ other
+FirstNullWordIsOne = (m : Matrix) (s : Set) (word other : List ℕ) → HasShape m
+    → IsFirstNullWord m s word → IsFirstNullWord m s other → word ≡ other
 
--- where some codeword fits, codewords of two sources fit exactly where the positions that arrived have a null word
+-- where some codeword fits, codewords of two sources fit exactly where the positions that arrived
+-- have a null word
 abbrev pub UndeterminedByNullWord : Type 0
-UndeterminedByNullWord = (m : Matrix) (len : ℕ) (arrivals : List Arrival) (fitting : List (List ℕ)) → HasShape m → 1 ≤ len → IsFitting m len arrivals fitting
+UndeterminedByNullWord = (m : Matrix) (len : ℕ) (arrivals : List Arrival) (fitting : List (List ℕ))
+    → HasShape m → 1 ≤ len → IsFitting m len arrivals fitting
     → IsUndetermined m len arrivals ↔ ((word : List ℕ) × IsNullWord m (positions arrivals) word)

@@ -1,17 +1,18 @@
 // The check of a null word, row by row.
 ghost use Rattle.std.specs.Prelude.{◌≡◌, ◌<◌, ◌-◌, ◌%◌, ◌↔◌, false, length, IsTrue, All, count_by};
 ghost use Rattle.std.specs.List.Sorted.{IsStrictlyIncreasing};
-ghost use Rattle.sparse_rows.specs.Matrix.{IsCode, row_of};
+ghost use Rattle.sparse_rows.specs.Matrix.{IsCode, row_of, is_in};
 ghost use Rattle.sparse_rows.specs.Closure.{flagged};
-ghost use Rattle.sparse_rows.specs.NullWord.{IsNullWord, is_in};
+ghost use Rattle.sparse_rows.specs.NullWord.{IsNullWord};
 
 use crate::NullWord;
 use fec_base::{Steps, Tally};
 use sparse_rows::Code;
 
-/// Whether the word is a null word of the positions that arrived: it isn't empty, each of its positions
-/// is below n and has not arrived, and each row of the matrix has an even number of them. `arrived` has
-/// a flag for each encoding symbol. Each entry of the matrix is looked for in the word once, by halving.
+/// Whether the word is a null word of the positions that arrived: it isn't empty, each of its
+/// positions is below n and has not arrived, and each row of the matrix has an even number of them.
+/// `arrived` has a flag for each encoding symbol. Each entry of the matrix is looked for in the
+/// word once, by halving.
 pub fn check(code: &Code, arrived: &[bool], w: &NullWord) -> bool
     requires { length arrived.now ≡ code.now.n }
     ensures { IsTrue result ↔ IsNullWord code.now (flagged arrived.now) w.now }
@@ -28,7 +29,9 @@ pub fn check(code: &Code, arrived: &[bool], w: &NullWord) -> bool
 
 // Whether each of these positions is one and has not arrived.
 fn are_missing(arrived: &[bool], word: &[u32]) -> bool
-    ensures { IsTrue result ↔ All (λ position. (position < length arrived.now) × (flagged arrived.now position ≡ false)) word.now }
+    ensures { IsTrue result
+        ↔ All (λ position. (position < length arrived.now)
+        × (flagged arrived.now position ≡ false)) word.now }
 {
     for position in word {
         if *position as usize >= arrived.len() || arrived[*position as usize] {

@@ -1,8 +1,9 @@
 // Laws over the definitions alone.
-ghost use Rattle.null_witness.specs.Laws.{ClosureHasSameNullWords, FirstNullWordIsOne, NullWordOfSubset, UndeterminedByNullWord};
+ghost use Rattle.null_witness.specs.Laws.{ClosureHasSameNullWords, FirstNullWordIsOne};
+ghost use Rattle.null_witness.specs.Laws.{NullWordOfSubset, UndeterminedByNullWord};
 
-/// Peeling neither adds nor takes a null word, fewer arrivals have those of more, and at most one is
-/// the first: that whose last column is least.
+/// Peeling neither adds nor takes a null word, fewer arrivals have those of more, and at most one
+/// is the first: that whose last column is least.
 pub fn null_words_follow_the_closure()
     ensures closure { ClosureHasSameNullWords }
     ensures subset { NullWordOfSubset }

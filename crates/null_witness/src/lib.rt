@@ -1,8 +1,9 @@
-//! Null words: what shows that arrivals leave a source block open. A null word of the positions that
-//! arrived is a set of other columns that each row of the matrix has an even number of. Two codewords
-//! that fit the same arrivals differ by null words, and adding one to a codeword that fits gives
-//! another that does. It stands on `sparse_rows` for codes, codewords and the closure. It promises
-//! that `check` says exactly which words are null words, and the laws that tie them to arrivals.
+//! Null words: what shows that arrivals leave a source block open. A null word of the positions
+//! that arrived is a set of other columns that each row of the matrix has an even number of. Two
+//! codewords that fit the same arrivals differ by null words, and adding one to a codeword that
+//! fits gives another that does. It stands on `sparse_rows` for codes, codewords and the closure.
+//! It promises that `check` says exactly which words are null words, and the laws that tie them to
+//! arrivals.
 #![tactic(auto)]
 
 mod check_word;

@@ -13,7 +13,8 @@ fn put_row(b: &mut RowsBuilder, r: u32, first: u32, second: u32, third: u32) -> 
     requires first { first < b.old.n }
     requires second { second < b.old.n }
     requires third { third < b.old.n }
-    ensures { OnOk result (b.new ≡ with_entry (with_entry (with_entry b.old r first) r second) r third) }
+    ensures { OnOk result (b.new
+        ≡ with_entry (with_entry (with_entry b.old r first) r second) r third) }
 {
     b.insert(r, first)?;
     b.insert(r, second)?;

@@ -1,6 +1,5 @@
 use Rattle.std.proofs.Common.{◌≡◌, ◌%◌, cond, take, count_by}
-use Rattle.sparse_rows.specs.Matrix.{row_of}
-use Rattle.sparse_rows.specs.NullWord.{is_in}
+use Rattle.sparse_rows.specs.Matrix.{row_of, is_in}
 use Rattle.null_witness.proofs.check_word.row_is_even.Given as goal
 
 abbrev pub invariant-loop-i : goal.invariant-loop-i

@@ -1,6 +1,5 @@
 use Rattle.std.proofs.Common.{◌≡◌, ℕ, ◌<◌, ◌%◌, count_by}
-use Rattle.sparse_rows.specs.Matrix.{row_of}
-use Rattle.sparse_rows.specs.NullWord.{is_in}
+use Rattle.sparse_rows.specs.Matrix.{row_of, is_in}
 use Rattle.null_witness.proofs.check_word.rows_are_even.Given as goal
 
 abbrev pub invariant-loop-r : goal.invariant-loop-r
