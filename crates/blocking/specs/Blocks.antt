@@ -20,6 +20,7 @@ spread total count =
 abbrev pub block_sizes : ℕ → ℕ → ℕ → List ℕ
 block_sizes size len most = spread (symbol_total size len) (block_count size len most)
 
--- how many encoding symbols a block of k source symbols has, where the greatest block has `most` and `greatest_n`
+-- how many encoding symbols a block of k source symbols has, where the greatest block has `most`
+-- and `greatest_n`
 abbrev pub scaled : ℕ → ℕ → ℕ → ℕ
 scaled k most greatest_n = k * greatest_n / most

@@ -1,5 +1,6 @@
 // The laws of the cut into source blocks.
-ghost use Rattle.blocking.specs.Laws.{BlocksAreCounted, BlocksAreInRange, BlocksHaveAll, SourceIsEncoded};
+ghost use Rattle.blocking.specs.Laws.{BlocksAreCounted, BlocksAreInRange, BlocksHaveAll};
+ghost use Rattle.blocking.specs.Laws.{SourceIsEncoded};
 
 /// The blocks are as many as counted, each has at least one source symbol and at most as many as
 /// the greatest block, together they have all source symbols of the object, and each block has at

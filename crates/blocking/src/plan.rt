@@ -1,5 +1,6 @@
 // The source blocks of an object.
-ghost use Rattle.std.specs.Prelude.{◌≡◌, ◌<◌, ◌≤◌, ◌*◌, length, slice_index, sum, take, IfOk, OnOk, OnErr};
+ghost use Rattle.std.specs.Prelude.{◌≡◌, ◌<◌, ◌≤◌, ◌*◌, length, slice_index, sum, take, IfOk, OnOk};
+ghost use Rattle.std.specs.Prelude.{OnErr};
 ghost use Rattle.blocking.specs.Blocks.{block_count, block_sizes, scaled};
 
 use std::marker::Model;
@@ -28,7 +29,8 @@ impl Model for Plan {
 
     ghost view = { λ p. replicate p.larger p.larger_len ++ replicate p.smaller p.smaller_len };
 
-    ghost invariant = { λ p. (p.larger + p.smaller ≤ 4096) × (p.larger * p.larger_len + p.smaller * p.smaller_len ≤ 268435456) };
+    ghost invariant = { λ p. (p.larger + p.smaller ≤ 4096)
+        × (p.larger * p.larger_len + p.smaller * p.smaller_len ≤ 268435456) };
 }
 
 impl Plan {

@@ -5,7 +5,10 @@ use Rattle.oti_fields.specs.declared.codec.Codec.{Codec}
 use Rattle.oti_fields.specs.declared.codec.Codec.TheVariants.{Staircase, Triangle, Parity2d}
 use Rattle.oti_fields.specs.declared.oti.Oti.{Oti}
 use Rattle.oti_fields.specs.declared.check.FieldFault.{FieldFault}
-use Rattle.oti_fields.specs.declared.check.FieldFault.TheVariants.{SymbolZero, GroupNotOne, BlockZero, MaxBelowBlock, MaxTooLarge, SeedRange, WidthZero, NotFixed}
+use Rattle.oti_fields.specs.declared.check.FieldFault.TheVariants.{SymbolZero, GroupNotOne}
+use Rattle.oti_fields.specs.declared.check.FieldFault.TheVariants.{BlockZero, MaxBelowBlock}
+use Rattle.oti_fields.specs.declared.check.FieldFault.TheVariants.{MaxTooLarge, SeedRange}
+use Rattle.oti_fields.specs.declared.check.FieldFault.TheVariants.{WidthZero, NotFixed}
 
 -- the number of a fault
 abbrev pub fault_number : FieldFault → ℕ
@@ -22,7 +25,8 @@ fault_number NotFixed = 8
 abbrev pub seed_fault : Oti → Option FieldFault
 seed_fault oti = if nat_le 1 oti.seed && nat_le oti.seed 2147483646 then None else Some SeedRange
 
--- the width of a grid stands in the place of the seed; N1 isn't used, and the greatest n follows from the others
+-- the width of a grid stands in the place of the seed; N1 isn't used, and the greatest n follows
+-- from the others
 abbrev pub grid_fault : Oti → Option FieldFault
 grid_fault oti =
     if oti.seed == 0 then Some WidthZero

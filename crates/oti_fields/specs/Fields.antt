@@ -1,4 +1,5 @@
--- The fields of the transmission information and of a packet's payload identifier, as numbers and as bytes (RFC 5170, sections 4.1 and 4.2).
+-- The fields of the transmission information and of a packet's payload identifier, as numbers and
+-- as bytes (RFC 5170, sections 4.1 and 4.2).
 use Rattle.std.specs.Prelude.{ℕ, ◌+◌, ◌*◌, ◌^◌, ◌<◌, List, ◌++◌}
 use Rattle.byteorder.specs.Endian.{big_bytes}
 use Rattle.oti_fields.specs.declared.codec.Codec.{Codec}
@@ -22,7 +23,8 @@ pub record FitsBits (oti : Oti) : Type 0 where
   pub max_n_bits : oti.max_n < 2 ^ 20
   pub seed_bits : oti.seed < 2 ^ 32
 
--- the transfer length in 48 bits; the symbol length in 16; N1 - 3 in 3 and G in 5; the greatest block length in 20 and the greatest n in 20; the seed, or the width, in 32
+-- the transfer length in 48 bits; the symbol length in 16; N1 - 3 in 3 and G in 5; the greatest
+-- block length in 20 and the greatest n in 20; the seed, or the width, in 32
 abbrev pub oti_bytes : Oti → List ℕ
 oti_bytes oti =
     big_bytes 6 oti.length ++ big_bytes 2 oti.symbol ++ big_bytes 1 (oti.n1m3 * 2 ^ 5 + oti.group)

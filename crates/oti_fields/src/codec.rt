@@ -28,7 +28,8 @@ impl Codec {
 
     /// The codec of a number. None where no codec has it.
     pub fn from_number(number: u8) -> Option<Codec>
-        ensures { MatchOption result ((codec : Codec) → codec_number codec ≢ number) (λ codec. codec_number codec ≡ number) }
+        ensures { MatchOption result ((codec : Codec)
+            → codec_number codec ≢ number) (λ codec. codec_number codec ≡ number) }
     {
         match number {
             3 => Some(Codec::Staircase),

@@ -41,8 +41,10 @@ pub fn write_oti(oti: &Oti, out: &mut [u8; 18])
 
 /// The fields that the bytes spell, or the first fault that they have with this codec.
 pub fn read_oti(codec: Codec, bytes: &[u8; 18]) -> Result<Oti, FieldFault>
-    ensures ok { IfOk result (λ oti. FitsBits oti × (bytes.now ≡ oti_bytes oti) × (field_fault codec oti ≡ None)) }
-    ensures err { IfErr result (λ fault. (oti : Oti) × FitsBits oti × (bytes.now ≡ oti_bytes oti) × (field_fault codec oti ≡ Some fault)) }
+    ensures ok { IfOk result (λ oti. FitsBits oti × (bytes.now ≡ oti_bytes oti)
+        × (field_fault codec oti ≡ None)) }
+    ensures err { IfErr result (λ fault. (oti : Oti) × FitsBits oti × (bytes.now ≡ oti_bytes oti)
+        × (field_fault codec oti ≡ Some fault)) }
 {
     let oti = read_fields(bytes);
     check_oti(codec, &oti)?;

@@ -7,8 +7,10 @@ use Rattle.parity_2d.specs.Grid.{grid_row, grid_column}
 
 -- the source symbols of each row of the grid, and then those of each of its columns
 abbrev pub source_rows : ℕ → ℕ → List (List ℕ)
-source_rows k w = map (grid_row k w) (range_with_len 0 (div_ceil k w)) ++ map (grid_column k w) (range_with_len 0 (min w k))
+source_rows k w = map (grid_row k w) (range_with_len 0 (div_ceil k w))
+    ++ map (grid_column k w) (range_with_len 0 (min w k))
 
 -- the matrix with its own parity behind each row
 abbrev pub with_parities : Matrix → Matrix
-with_parities m = record m { rows = map (λ r. row_of m r ++ (m.k + r) ∷ []) (range_with_len 0 (length m.rows)) }
+with_parities m = record m
+    { rows = map (λ r. row_of m r ++ (m.k + r) ∷ []) (range_with_len 0 (length m.rows)) }

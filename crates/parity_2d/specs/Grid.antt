@@ -4,7 +4,8 @@ use Rattle.std.specs.Int.{div_ceil}
 use Rattle.std.specs.List.{range_with_len}
 use Rattle.sparse_rows.specs.Matrix.{Matrix}
 
--- the number of encoding symbols: the source symbols, a parity for each row of the grid, and one for each of its columns
+-- the number of encoding symbols: the source symbols, a parity for each row of the grid, and one
+-- for each of its columns
 abbrev pub size_2d : ℕ → ℕ → ℕ
 size_2d k w = k + div_ceil k w + min w k
 
@@ -16,12 +17,14 @@ grid_row k w i = filter (λ c. (c / w) == i) (range_with_len 0 k)
 abbrev pub grid_column : ℕ → ℕ → ℕ → List ℕ
 grid_column k w j = filter (λ c. (c % w) == j) (range_with_len 0 k)
 
--- the parity check matrix: the grid's rows, each with its parity, and then its columns, each with its parity
+-- the parity check matrix: the grid's rows, each with its parity, and then its columns, each with
+-- its parity
 abbrev pub grid_matrix : ℕ → ℕ → Matrix
 grid_matrix k w =
     let a = div_ceil k w in
     record {
       k = k;
       n = size_2d k w;
-      rows = map (λ i. grid_row k w i ++ (k + i) ∷ []) (range_with_len 0 a) ++ map (λ j. grid_column k w j ++ (k + a + j) ∷ []) (range_with_len 0 (min w k));
+      rows = map (λ i. grid_row k w i ++ (k + i) ∷ []) (range_with_len 0 a)
+          ++ map (λ j. grid_column k w j ++ (k + a + j) ∷ []) (range_with_len 0 (min w k));
     }

@@ -1,5 +1,6 @@
 // The grid, source symbol by source symbol.
-ghost use Rattle.std.specs.Prelude.{◌≡◌, ◌≤◌, ◌<◌, ◌+◌, min, replicate, [], length, All, IfOk, OnOk};
+ghost use Rattle.std.specs.Prelude.{◌≡◌, ◌≤◌, ◌<◌, ◌+◌, min, replicate, [], length, All, IfOk};
+ghost use Rattle.std.specs.Prelude.{OnOk};
 ghost use Rattle.std.specs.Int.{div_ceil};
 ghost use Rattle.parity_2d.specs.Grid.{grid_matrix, size_2d};
 ghost use Rattle.parity_2d.specs.Filling.{source_rows, with_parities};

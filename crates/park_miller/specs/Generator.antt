@@ -1,5 +1,6 @@
--- The generator: the "minimal standard" of Park and Miller (RFC 5170, section 5.7), with draws scaled in whole numbers.
--- `next` and `drawn` unfold only on request, since who draws needs nothing of their arithmetic.
+-- The generator: the "minimal standard" of Park and Miller (RFC 5170, section 5.7), with draws
+-- scaled in whole numbers. `next` and `drawn` unfold only on request, since who draws needs nothing
+-- of their arithmetic.
 use Rattle.std.specs.Prelude.{ℕ, ◌*◌, ◌/◌, ◌%◌, ◌<◌, ◌≤◌}
 use Rattle.std.proofs.Common.{zero, suc}
 

@@ -3,7 +3,8 @@ use Rattle.std.specs.Prelude.{ℕ, ◌+◌, ◌-◌, List, length, swap}
 use Rattle.std.proofs.Common.{zero, suc}
 use Rattle.park_miller.specs.Generator.{next, drawn}
 
--- the list after the exchanges at the places from this one down to 1: the item at each changes places with one at a drawn place, its own or a lower one
+-- the list after the exchanges at the places from this one down to 1: the item at each changes
+-- places with one at a drawn place, its own or a lower one
 abbrev pub exchanged : ℕ → List ℕ → ℕ → List ℕ
 exchanged zero list state = list
 exchanged (suc below) list state =

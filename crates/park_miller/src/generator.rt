@@ -1,4 +1,5 @@
-ghost use Rattle.std.specs.Prelude.{◌≡◌, ℕ, ◌-◌, ◌*◌, ◌/◌, ◌%◌, ◌^◌, ◌<◌, ◌≤◌, ◌↔◌, ◌⊎◌, length, IsErr, IfOk, IsPermutation};
+ghost use Rattle.std.specs.Prelude.{◌≡◌, ℕ, ◌-◌, ◌*◌, ◌/◌, ◌%◌, ◌^◌, ◌<◌, ◌≤◌, ◌↔◌, ◌⊎◌, length};
+ghost use Rattle.std.specs.Prelude.{IsErr, IfOk, IsPermutation};
 ghost use Rattle.park_miller.specs.Generator.{modulus, IsState, next, after, drawn};
 ghost use Rattle.park_miller.specs.Shuffle.{shuffled};
 
@@ -87,8 +88,8 @@ impl ParkMiller {
     }
 }
 
-// 2^31 is one more than the modulus, so the bits above the lowest 31 may be added to those. The sum is
-// below twice the modulus.
+// 2^31 is one more than the modulus, so the bits above the lowest 31 may be added to those. The sum
+// is below twice the modulus.
 fn reduce(product: u64) -> u32
     requires { product < 2 ^ 46 }
     ensures { result ≡ product % modulus }

@@ -22,11 +22,13 @@ impl Model for Draws {
 
     ghost Value = { LimitedDraws };
 
-    ghost view = { λ draws. record { state = draws.generator; used = draws.used; limit = draws.limit } };
+    ghost view = { λ draws. record
+        { state = draws.generator; used = draws.used; limit = draws.limit } };
 
     ghost invariant = { λ draws. draws.used ≤ draws.limit };
 
-    ghost inverse = { λ draws. record { generator = draws.state; used = draws.used; limit = draws.limit } };
+    ghost inverse = { λ draws. record
+        { generator = draws.state; used = draws.used; limit = draws.limit } };
 }
 
 impl Draws {
@@ -43,8 +45,8 @@ impl Draws {
         }
     }
 
-    /// Draws as [`ParkMiller::draw`] does. Where the limit is reached, it answers `Over` and changes
-    /// nothing.
+    /// Draws as [`ParkMiller::draw`] does. Where the limit is reached, it answers `Over` and
+    /// changes nothing.
     pub fn draw(&mut self, below: u32) -> Result<u32, Over>
         requires positive { 1 ≤ below }
         requires within { below ≤ MAX_BOUND }

@@ -3,7 +3,7 @@ use Rattle.std.proofs.Common.{◌≡◌, ℕ, ◌+◌, ◌<◌, ◌≤◌, Bool,
 use Rattle.std.specs.List.{list_any}
 use Rattle.std.proofs.lemmas.Bool.{eqb-true}
 use Rattle.std.proofs.lemmas.List.Sums.{sum_by-cons, count_by-le-length}
-use Rattle.sparse_rows.specs.Matrix.{Matrix, has_column, has_entry, with_entry}
+use Rattle.sparse_rows.specs.Matrix.{Matrix, is_in, has_entry, with_entry}
 use Rattle.staircase.specs.LeftSide.{IsFilled, without}
 use Rattle.staircase.specs.Choices.{blocked_count}
 use Rattle.staircase.proofs.Counted.{sum_by-without}
@@ -55,7 +55,7 @@ blocked_with m r c (x ∷ xs) lt free = by_case (x == r) refl (blocked_with m r 
         let old = count_no (λ y. has_entry m y c) x xs (rw same free) in
         omega (arith, new, old, count_yes (λ y. y == r) x xs e, rest)
     by_case false e rest =
-        let other : has_entry (with_entry m r c) x c ≡ has_entry m x c = ap (has_column c) (row_of-with_other m r c x (λ same. absurd (cc (e, eq-eqb x r same)))) in
+        let other : has_entry (with_entry m r c) x c ≡ has_entry m x c = ap (λ columns. is_in columns c) (row_of-with_other m r c x (λ same. absurd (cc (e, eq-eqb x r same)))) in
         let new = sum_by-cons (λ y. cond (has_entry (with_entry m r c) y c) 1 0) x xs in
         let old = sum_by-cons (λ y. cond (has_entry m y c) 1 0) x xs in
         let weight = ap (λ b. let one : ℕ = cond b 1 0 in one) other in

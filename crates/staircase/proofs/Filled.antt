@@ -5,7 +5,7 @@ use Rattle.std.proofs.lemmas.Bool.{cases_lt}
 use Rattle.std.proofs.lemmas.List.{get_or-set_same, get_or-set_other, get_or_past, length-replicate}
 use Rattle.std.proofs.lemmas.List.Elements.{All-nil, All-get_or, All-set, All-weaker, All-replicate}
 use Rattle.std.proofs.lemmas.List.Folds.{list_any-append, list_any_none}
-use Rattle.sparse_rows.specs.Matrix.{Matrix, row_of, has_column, has_entry, with_column, with_entry}
+use Rattle.sparse_rows.specs.Matrix.{Matrix, row_of, is_in, has_entry, with_column, with_entry}
 use Rattle.sparse_rows.specs.Rows.{IsRising}
 use Rattle.sparse_rows.proofs.Rising.{with_column_rises}
 use Rattle.staircase.specs.LeftSide.{IsFilled}
@@ -42,19 +42,19 @@ module _ (k n bound : ℕ) (m : Matrix) (filled : IsFilled k n bound m) (r c : �
   }
 
 -- a column above all of a row's is not in it
-pub lacks_above : (c : ℕ) (row : List ℕ) → All (λ x. x < c) row → has_column c row ≡ false
+pub lacks_above : (c : ℕ) (row : List ℕ) → All (λ x. x < c) row → is_in row c ≡ false
 lacks_above c row below = list_any_none (λ x. x == c) row (λ i d lt. ne_eqb (get_or row i d) c (λ e. let h : get_or row i d < c = below i d lt in absurd (omega arith)))
 
 -- no row has a column at the bound
 pub lacks_bound : (k n c r : ℕ) (m : Matrix) → IsFilled k n c m → has_entry m r c ≡ false
 lacks_bound k n c r m filled = ⊎_elim
     (λ (lt : r < length m.rows). lacks_above c (row_of m r) (All-get_or (IsRising c) m.rows r [] lt filled.rows).below)
-    (λ (le : length m.rows ≤ r). ap (has_column c) (get_or_past m.rows r [] le))
+    (λ (le : length m.rows ≤ r). ap (λ columns. is_in columns c) (get_or_past m.rows r [] le))
     (cases_lt r (length m.rows))
 
 -- the row with the column has it
-has_column-with : (c : ℕ) (row : List ℕ) → has_column c (with_column c row) ≡ true
-has_column-with c row = list_any-append (λ x. x == c) low (c ∷ high) ∙ ap (λ b. list_any (λ x. x == c) low || (b || list_any (λ x. x == c) high)) (eq-eqb c c refl) ∙ or_true (list_any (λ x. x == c) low)
+is_in-with : (c : ℕ) (row : List ℕ) → is_in (with_column c row) c ≡ true
+is_in-with c row = list_any-append (λ x. x == c) low (c ∷ high) ∙ ap (λ b. list_any (λ x. x == c) low || (b || list_any (λ x. x == c) high)) (eq-eqb c c refl) ∙ or_true (list_any (λ x. x == c) low)
   where
     low : List ℕ
     low = filter (λ x. nat_lt x c) row
@@ -68,7 +68,7 @@ has_column-with c row = list_any-append (λ x. x == c) low (c ∷ high) ∙ ap (
 
 -- the entry is there, and every other row stays
 pub has_entry-with : (m : Matrix) (r c : ℕ) → r < length m.rows → has_entry (with_entry m r c) r c ≡ true
-has_entry-with m r c lt = ap (has_column c) (get_or-set_same m.rows r (with_column c (row_of m r)) [] lt) ∙ has_column-with c (row_of m r)
+has_entry-with m r c lt = ap (λ columns. is_in columns c) (get_or-set_same m.rows r (with_column c (row_of m r)) [] lt) ∙ is_in-with c (row_of m r)
 
 pub row_of-with_other : (m : Matrix) (r c i : ℕ) → i ≢ r → row_of (with_entry m r c) i ≡ row_of m i
 row_of-with_other m r c i other = get_or-set_other m.rows r i (with_column c (row_of m r)) [] other

@@ -1,5 +1,6 @@
 -- How the rows that are left to choose from are kept.
-use Rattle.std.specs.Prelude.{◌≡◌, ℕ, ◌<◌, ◌≤◌, ◌==◌, List, length, drop, count_by, slice_index, All}
+use Rattle.std.specs.Prelude.{◌≡◌, ℕ, ◌<◌, ◌≤◌, ◌==◌, List, length, drop, count_by, slice_index}
+use Rattle.std.specs.Prelude.{All}
 use Rattle.park_miller.specs.declared.generator.TheConstants.{MAX_BOUND}
 use Rattle.park_miller.specs.LimitedDraws.{LimitedDraws}
 use Rattle.sparse_rows.specs.Matrix.{Matrix, has_entry}
@@ -16,7 +17,8 @@ pub record IsCounted (first : ℕ) (items counts : List ℕ) : Type 0 where
   pub most : length items ≤ MAX_BOUND
   pub few : length counts ≤ 65536
   pub below : All (λ row. row < length counts) (drop first items)
-  pub counted : (r : ℕ) → r < length counts → slice_index counts r ≡ count_by (λ row. row == r) (drop first items)
+  pub counted : (r : ℕ) → r < length counts
+      → slice_index counts r ≡ count_by (λ row. row == r) (drop first items)
 
 -- a matrix that is being filled from such rows
 abbrev pub filling : Matrix → RowList → LimitedDraws → Filling

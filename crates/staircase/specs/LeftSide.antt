@@ -1,5 +1,7 @@
 -- The left side of the matrix: the columns of the source symbols, row by row.
-use Rattle.std.specs.Prelude.{◌≡◌, ℕ, ◌+◌, ◌-◌, ◌*◌, ◌%◌, ◌<◌, ◌==◌, ◌&&◌, nat_lt, nat_le, min, Bool, true, not, if◌then◌else◌, Option, Some, List, [], length, map, drop, count_by, replicate, slice_index, slice_set, All}
+use Rattle.std.specs.Prelude.{◌≡◌, ℕ, ◌+◌, ◌-◌, ◌*◌, ◌%◌, ◌<◌, ◌==◌, ◌&&◌, nat_lt, nat_le, min}
+use Rattle.std.specs.Prelude.{Bool, true, not, if◌then◌else◌, Option, Some, List, [], length, map}
+use Rattle.std.specs.Prelude.{drop, count_by, replicate, slice_index, slice_set, All}
 use Rattle.std.specs.List.{list_any, range_with_len}
 use Rattle.std.specs.Option.{option_map, option_and_then}
 use Rattle.std.proofs.Common.{zero, suc}
@@ -25,26 +27,36 @@ pub record DrawnMatrix : Type 0 where
 abbrev pub drawn_matrix : Matrix → LimitedDraws → DrawnMatrix
 drawn_matrix m g = record { matrix = m; draws = g }
 
--- a matrix whose columns are being filled: its rows so far, the rows that are left to choose from, and the generator
+-- a matrix whose columns are being filled: its rows so far, the rows that are left to choose from,
+-- and the generator
 pub record Filling : Type 0 where
   pub matrix : Matrix
   pub rest : List ℕ
   pub draws : LimitedDraws
 
--- the rows that are left when the one at place i is taken: the first one goes to that place, and leaves the front
+-- the rows that are left when the one at place i is taken: the first one goes to that place, and
+-- leaves the front
 abbrev pub without : List ℕ → ℕ → List ℕ
 without rest i = drop 1 (slice_set rest i (slice_index rest 0))
 
 -- column c goes into a row that is left, at the first drawn place whose row is without the column
 unfoldable pub from_rest : ℕ → Filling → Option Filling
-from_rest c f = option_map (λ p. record { matrix = with_entry f.matrix (slice_index f.rest p.value) c; rest = without f.rest p.value; draws = p.draws })
+from_rest c f = option_map
+    (λ p. record {
+      matrix = with_entry f.matrix (slice_index f.rest p.value) c;
+      rest = without f.rest p.value;
+      draws = p.draws;
+    })
     (pick (length f.rest) (λ i. lacks f.matrix c (slice_index f.rest i)) f.draws)
 
 -- column c goes into the first drawn row that is without it
 unfoldable pub from_rows : ℕ → Filling → Option Filling
-from_rows c f = option_map (λ p. record f { matrix = with_entry f.matrix p.value c; draws = p.draws }) (pick (f.matrix.n - f.matrix.k) (lacks f.matrix c) f.draws)
+from_rows c f = option_map
+    (λ p. record f { matrix = with_entry f.matrix p.value c; draws = p.draws })
+    (pick (f.matrix.n - f.matrix.k) (lacks f.matrix c) f.draws)
 
--- a turn of column c: the rows that are left are chosen from as long as one of them is without the column
+-- a turn of column c: the rows that are left are chosen from as long as one of them is without the
+-- column
 unfoldable pub turn : ℕ → Filling → Option Filling
 turn c f = if list_any (lacks f.matrix c) f.rest then from_rest c f else from_rows c f
 
@@ -54,7 +66,11 @@ column turns c f = in_order turns (λ _. turn c) f
 
 -- no row has a column, and n1 * k times the next row is to be chosen, in a circle
 abbrev pub empty_filling : ℕ → ℕ → ℕ → LimitedDraws → Filling
-empty_filling k n n1 g = record { matrix = record { k = k; n = n; rows = replicate (n - k) [] }; rest = map (λ h. h % (n - k)) (range_with_len 0 (n1 * k)); draws = g }
+empty_filling k n n1 g = record {
+  matrix = record { k = k; n = n; rows = replicate (n - k) [] };
+  rest = map (λ h. h % (n - k)) (range_with_len 0 (n1 * k));
+  draws = g;
+}
 
 -- each column takes n1 turns, or as many as there are rows
 abbrev pub columns : ℕ → ℕ → ℕ → LimitedDraws → Option Filling
@@ -66,25 +82,31 @@ source_degree m r = count_by (λ c. nat_lt c m.k) (row_of m r)
 
 -- row r gains a picked column
 abbrev pub with_picked : ℕ → DrawnMatrix → Option Picked → Option DrawnMatrix
-with_picked r d picked = option_map (λ p. drawn_matrix (with_entry d.matrix r p.value) p.draws) picked
+with_picked r d picked = option_map (λ p. drawn_matrix (with_entry d.matrix r p.value) p.draws)
+    picked
 
 -- a row without a source symbol gains any one
 unfoldable pub first_extra : ℕ → DrawnMatrix → Option DrawnMatrix
-first_extra r d = if source_degree d.matrix r == 0 then with_picked r d (pick d.matrix.k (λ _. true) d.draws) else Some d
+first_extra r d = if source_degree d.matrix r == 0
+    then with_picked r d (pick d.matrix.k (λ _. true) d.draws) else Some d
 
 -- a row with a single one gains another, where there is another
 unfoldable pub second_extra : ℕ → DrawnMatrix → Option DrawnMatrix
-second_extra r d = if (source_degree d.matrix r == 1) && nat_le 2 d.matrix.k then with_picked r d (pick d.matrix.k (λ c. lacks d.matrix c r) d.draws) else Some d
+second_extra r d = if (source_degree d.matrix r == 1) && nat_le 2 d.matrix.k
+    then with_picked r d (pick d.matrix.k (λ c. lacks d.matrix c r) d.draws) else Some d
 
 -- the extra columns of row r
 abbrev pub extras : ℕ → DrawnMatrix → Option DrawnMatrix
 extras r d = option_and_then (second_extra r) (first_extra r d)
 
--- the left side of n - k rows: the columns are filled, and then the rows gain their extra ones; none where that takes more draws than there may be
+-- the left side of n - k rows: the columns are filled, and then the rows gain their extra ones;
+-- none where that takes more draws than there may be
 unfoldable pub left_side : ℕ → ℕ → ℕ → LimitedDraws → Option DrawnMatrix
-left_side k n n1 g = option_and_then (in_order (n - k) extras) (option_map (λ f. drawn_matrix f.matrix f.draws) (columns k n n1 g))
+left_side k n n1 g = option_and_then (in_order (n - k) extras)
+    (option_map (λ f. drawn_matrix f.matrix f.draws) (columns k n n1 g))
 
--- of n encoding symbols the first k are the source symbols, and the columns of each of the n - k rows rise and lie below a bound
+-- of n encoding symbols the first k are the source symbols, and the columns of each of the n - k
+-- rows rise and lie below a bound
 pub record IsFilled (k n bound : ℕ) (m : Matrix) : Type 0 where
   pub source : m.k ≡ k
   pub encoding : m.n ≡ n

@@ -19,7 +19,8 @@ pub record Picked : Type 0 where
   pub value : ℕ
   pub draws : LimitedDraws
 
--- the first good draw below m: the i-th, for the least i, up to the number of draws that are left, at which its value is good; none where no such draw is
+-- the first good draw below m: the i-th, for the least i, up to the number of draws that are left,
+-- at which its value is good; none where no such draw is
 unfoldable pub pick : ℕ → (ℕ → Bool) → LimitedDraws → Option Picked
 pick m good g =
     option_map (λ i. record { value = drawn m (after i g.state); draws = after_draws i g })

@@ -27,7 +27,9 @@ pub record CountedMatrix : Type 0 where
   pub matrix : Matrix
   pub draws : ℕ
 
--- the matrix of the staircase code that a seed gives; none where that takes more draws than the limit
+-- the matrix of the staircase code that a seed gives; none where that takes more draws than the
+-- limit
 unfoldable pub staircase_matrix : ℕ → ℕ → ℕ → ℕ → ℕ → Option CountedMatrix
 staircase_matrix k n n1 seed limit =
-    option_map (λ left. record { matrix = with_stairs left.matrix; draws = left.draws.used }) (left_side k n n1 (record { state = seed; used = 0; limit = limit }))
+    option_map (λ left. record { matrix = with_stairs left.matrix; draws = left.draws.used })
+    (left_side k n n1 (record { state = seed; used = 0; limit = limit }))

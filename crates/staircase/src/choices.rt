@@ -1,5 +1,6 @@
 // The rows that are left to choose from.
-ghost use Rattle.std.specs.Prelude.{◌≡◌, ◌==◌, ◌<◌, ◌≤◌, ◌%◌, length, map, count_by, slice_index, IfOk};
+ghost use Rattle.std.specs.Prelude.{◌≡◌, ◌==◌, ◌<◌, ◌≤◌, ◌%◌, length, map, count_by, slice_index};
+ghost use Rattle.std.specs.Prelude.{IfOk};
 ghost use Rattle.std.specs.List.{range_with_len};
 ghost use Rattle.staircase.specs.LeftSide.{without};
 
@@ -23,7 +24,8 @@ impl Model for Choices {
 
     ghost Value = { RowList };
 
-    ghost view = { λ a. record { rows = length a.counts.items; list = drop a.first a.items.items } };
+    ghost view = { λ a. record
+        { rows = length a.counts.items; list = drop a.first a.items.items } };
 
     ghost invariant = { λ a. IsCounted a.first a.items.items a.counts.items };
 }
@@ -34,7 +36,8 @@ impl Choices {
         requires some { 1 ≤ rows }
         requires few { rows ≤ 65536 }
         requires most { count ≤ MAX_BOUND }
-        ensures { IfOk result (λ choices. choices ≡ record { rows = rows; list = map (λ h. h % rows) (range_with_len 0 count) }) }
+        ensures { IfOk result (λ choices. choices
+            ≡ record { rows = rows; list = map (λ h. h % rows) (range_with_len 0 count) }) }
     {
         let mut items = Vec::with_capacity(alloc, count as usize)?;
         let mut counts = vec![in alloc; 0; rows as usize]?;

@@ -2,7 +2,8 @@
 ghost use Rattle.std.specs.Prelude.{◌≡◌, ◌<◌, ◌≤◌, ◌-◌, ℕ, length, Some, None, Err, OnOk};
 ghost use Rattle.sparse_rows.specs.Matrix.{row_of};
 ghost use Rattle.staircase.specs.Pick.{HasDrawn};
-ghost use Rattle.staircase.specs.LeftSide.{IsFilled, IsLeftSide, first_extra, second_extra, extras, in_order, drawn_matrix};
+ghost use Rattle.staircase.specs.LeftSide.{IsFilled, IsLeftSide, first_extra, second_extra, extras};
+ghost use Rattle.staircase.specs.LeftSide.{in_order, drawn_matrix};
 
 use crate::picks::pick_column;
 use crate::refusal::BuildRefusal;
@@ -20,8 +21,10 @@ pub fn add_extras(
     requires most { k ≤ 65536 }
     requires filled { IsFilled k rows.old.n k rows.old }
     requires count { count ≡ rows.old.n - k }
-    ensures ok { OnOk result (in_order count extras (drawn_matrix rows.old g.old) ≡ Some (drawn_matrix rows.new g.new)) }
-    ensures draw_limit { result ≡ Err BuildRefusal.DrawLimit → in_order count extras (drawn_matrix rows.old g.old) ≡ None }
+    ensures ok { OnOk result (in_order count extras (drawn_matrix rows.old g.old)
+        ≡ Some (drawn_matrix rows.new g.new)) }
+    ensures draw_limit { result ≡ Err BuildRefusal.DrawLimit
+        → in_order count extras (drawn_matrix rows.old g.old) ≡ None }
     ensures sources { OnOk result (IsLeftSide k rows.old.n rows.new) }
     ensures drawn { HasDrawn g.old g.new }
 {
@@ -38,11 +41,14 @@ fn add_first(rows: &mut RowsBuilder, r: u32, k: u32, g: &mut Draws) -> Result<()
     requires most { k ≤ 65536 }
     requires filled { IsFilled k rows.old.n k rows.old }
     requires row { r < rows.old.n - k }
-    ensures ok { OnOk result (first_extra r (drawn_matrix rows.old g.old) ≡ Some (drawn_matrix rows.new g.new)) }
-    ensures draw_limit { result ≡ Err BuildRefusal.DrawLimit → first_extra r (drawn_matrix rows.old g.old) ≡ None }
+    ensures ok { OnOk result (first_extra r (drawn_matrix rows.old g.old)
+        ≡ Some (drawn_matrix rows.new g.new)) }
+    ensures draw_limit { result ≡ Err BuildRefusal.DrawLimit
+        → first_extra r (drawn_matrix rows.old g.old) ≡ None }
     ensures filled { OnOk result (IsFilled k rows.old.n k rows.new) }
     ensures some { OnOk result (0 < length (row_of rows.new r)) }
-    ensures keeps { OnOk result ((i : ℕ) → 0 < length (row_of rows.old i) → 0 < length (row_of rows.new i)) }
+    ensures keeps { OnOk result ((i : ℕ) → 0 < length (row_of rows.old i)
+        → 0 < length (row_of rows.new i)) }
     ensures drawn { HasDrawn g.old g.new }
 {
     if rows.source_degree(r) == 0 {
@@ -58,10 +64,13 @@ fn add_second(rows: &mut RowsBuilder, r: u32, k: u32, g: &mut Draws) -> Result<(
     requires most { k ≤ 65536 }
     requires filled { IsFilled k rows.old.n k rows.old }
     requires row { r < rows.old.n - k }
-    ensures ok { OnOk result (second_extra r (drawn_matrix rows.old g.old) ≡ Some (drawn_matrix rows.new g.new)) }
-    ensures draw_limit { result ≡ Err BuildRefusal.DrawLimit → second_extra r (drawn_matrix rows.old g.old) ≡ None }
+    ensures ok { OnOk result (second_extra r (drawn_matrix rows.old g.old)
+        ≡ Some (drawn_matrix rows.new g.new)) }
+    ensures draw_limit { result ≡ Err BuildRefusal.DrawLimit
+        → second_extra r (drawn_matrix rows.old g.old) ≡ None }
     ensures filled { OnOk result (IsFilled k rows.old.n k rows.new) }
-    ensures keeps { OnOk result ((i : ℕ) → 0 < length (row_of rows.old i) → 0 < length (row_of rows.new i)) }
+    ensures keeps { OnOk result ((i : ℕ) → 0 < length (row_of rows.old i)
+        → 0 < length (row_of rows.new i)) }
     ensures drawn { HasDrawn g.old g.new }
 {
     if rows.source_degree(r) == 1 && k >= 2 {

@@ -1,8 +1,10 @@
 // The left side of the matrix: the columns of the source symbols.
-ghost use Rattle.std.specs.Prelude.{◌≡◌, ◌<◌, ◌≤◌, ◌+◌, ◌-◌, false, Some, None, Err, IfOk, OnOk, OnErr};
+ghost use Rattle.std.specs.Prelude.{◌≡◌, ◌<◌, ◌≤◌, ◌+◌, ◌-◌, false, Some, None, Err, IfOk, OnOk};
+ghost use Rattle.std.specs.Prelude.{OnErr};
 ghost use Rattle.sparse_rows.specs.Matrix.{has_entry, with_entry};
 ghost use Rattle.staircase.specs.Pick.{HasDrawn};
-ghost use Rattle.staircase.specs.LeftSide.{IsFilled, IsLeftSide, turn, column, left_side, in_order, drawn_matrix};
+ghost use Rattle.staircase.specs.LeftSide.{IsFilled, IsLeftSide, turn, column, left_side, in_order};
+ghost use Rattle.staircase.specs.LeftSide.{drawn_matrix};
 ghost use Rattle.staircase.specs.Choices.{filling, blocked_count};
 
 use crate::choices::Choices;
@@ -57,8 +59,10 @@ fn fill_columns(
     requires some { k < rows.old.n }
     requires filled { IsFilled rows.old.k rows.old.n 0 rows.old }
     requires rows { choices.old.rows ≡ rows.old.n - rows.old.k }
-    ensures ok { OnOk result (in_order k (column turns) (filling rows.old choices.old g.old) ≡ Some (filling rows.new choices.new g.new)) }
-    ensures draw_limit { result ≡ Err BuildRefusal.DrawLimit → in_order k (column turns) (filling rows.old choices.old g.old) ≡ None }
+    ensures ok { OnOk result (in_order k (column turns) (filling rows.old choices.old g.old)
+        ≡ Some (filling rows.new choices.new g.new)) }
+    ensures draw_limit { result ≡ Err BuildRefusal.DrawLimit
+        → in_order k (column turns) (filling rows.old choices.old g.old) ≡ None }
     ensures filled { OnOk result (IsFilled rows.old.k rows.old.n k rows.new) }
     ensures drawn { HasDrawn g.old g.new }
 {
@@ -81,8 +85,10 @@ fn fill_column(
     requires some { rows.old.k < rows.old.n }
     requires filled { IsFilled rows.old.k rows.old.n c rows.old }
     requires rows { choices.old.rows ≡ rows.old.n - rows.old.k }
-    ensures ok { OnOk result (column turns c (filling rows.old choices.old g.old) ≡ Some (filling rows.new choices.new g.new)) }
-    ensures draw_limit { result ≡ Err BuildRefusal.DrawLimit → column turns c (filling rows.old choices.old g.old) ≡ None }
+    ensures ok { OnOk result (column turns c (filling rows.old choices.old g.old)
+        ≡ Some (filling rows.new choices.new g.new)) }
+    ensures draw_limit { result ≡ Err BuildRefusal.DrawLimit
+        → column turns c (filling rows.old choices.old g.old) ≡ None }
     ensures filled { OnOk result (IsFilled rows.old.k rows.old.n (c + 1) rows.new) }
     ensures rows { OnOk result (choices.new.rows ≡ choices.old.rows) }
     ensures drawn { HasDrawn g.old g.new }
@@ -108,7 +114,8 @@ fn choose_row(
     requires some { rows.now.k < rows.now.n }
     requires rows { choices.old.rows ≡ rows.now.n - rows.now.k }
     requires blocked { blocked ≡ blocked_count rows.now c choices.old.list }
-    ensures turn { IfOk result (λ r. turn c (filling rows.now choices.old g.old) ≡ Some (filling (with_entry rows.now r c) choices.new g.new)) }
+    ensures turn { IfOk result (λ r. turn c (filling rows.now choices.old g.old)
+        ≡ Some (filling (with_entry rows.now r c) choices.new g.new)) }
     ensures over { OnErr result (turn c (filling rows.now choices.old g.old) ≡ None) }
     ensures below { IfOk result (λ r. r < rows.now.n - rows.now.k) }
     ensures free { IfOk result (λ r. has_entry rows.now r c ≡ false) }

@@ -1,5 +1,6 @@
 // The right side of the staircase, and the code.
-ghost use Rattle.std.specs.Prelude.{◌≡◌, ◌<◌, ◌≤◌, ◌+◌, ◌-◌, length, Some, None, Err, All, IfOk, OnOk};
+ghost use Rattle.std.specs.Prelude.{◌≡◌, ◌<◌, ◌≤◌, ◌+◌, ◌-◌, length, Some, None, Err, All, IfOk};
+ghost use Rattle.std.specs.Prelude.{OnOk};
 ghost use Rattle.staircase.specs.LeftSide.{IsLeftSide};
 ghost use Rattle.sparse_rows.specs.Matrix.{HasShape, row_of};
 ghost use Rattle.staircase.specs.Staircase.{with_stair, with_stairs, staircase_matrix};
@@ -18,9 +19,10 @@ pub struct Built {
     pub draws: u64,
 }
 
-/// The LDPC-Staircase code (RFC 5170, section 6.2) of n encoding symbols, of which the first k are the
-/// source symbols: the left side, whose draws begin at the seed, and in each row its own repair symbol
-/// behind that of the row before. `DrawLimit` comes where the left side takes more than `limit` draws.
+/// The LDPC-Staircase code (RFC 5170, section 6.2) of n encoding symbols, of which the first k are
+/// the source symbols: the left side, whose draws begin at the seed, and in each row its own repair
+/// symbol behind that of the row before. `DrawLimit` comes where the left side takes more than
+/// `limit` draws.
 pub fn staircase(
     alloc: Global,
     k: u32,
@@ -36,8 +38,10 @@ pub fn staircase(
     requires greatest { n1 ≤ 10 }
     requires positive_seed { 1 ≤ seed }
     requires seed { seed ≤ MAX_SEED }
-    ensures ok { IfOk result (λ built. staircase_matrix k n n1 seed limit ≡ Some (record { matrix = built.code; draws = built.draws })) }
-    ensures draw_limit { result ≡ Err BuildRefusal.DrawLimit → staircase_matrix k n n1 seed limit ≡ None }
+    ensures ok { IfOk result (λ built. staircase_matrix k n n1 seed limit
+        ≡ Some (record { matrix = built.code; draws = built.draws })) }
+    ensures draw_limit { result ≡ Err BuildRefusal.DrawLimit
+        → staircase_matrix k n n1 seed limit ≡ None }
     ensures source { IfOk result (λ built. built.code.k ≡ k) }
     ensures symbols { IfOk result (λ built. built.code.n ≡ n) }
 {

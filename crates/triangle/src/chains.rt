@@ -9,11 +9,11 @@ use sparse_rows::{Code, RowsBuilder};
 use staircase::{BuildRefusal, Built, add_stairs, left};
 use std::alloc::Global;
 
-/// The LDPC-Triangle code (RFC 5170, section 7.2) of n encoding symbols, of which the first k are the
-/// source symbols: the staircase, whose left side has the first draws from the seed, and then row by
-/// row a chain of further repair symbols, which begins at that of the row before. `DrawLimit` comes
-/// where both take more than `limit` draws. The numbers of a chain fall, so it meets no repair symbol
-/// twice.
+/// The LDPC-Triangle code (RFC 5170, section 7.2) of n encoding symbols, of which the first k are
+/// the source symbols: the staircase, whose left side has the first draws from the seed, and then
+/// row by row a chain of further repair symbols, which begins at that of the row before.
+/// `DrawLimit` comes where both take more than `limit` draws. The numbers of a chain fall, so it
+/// meets no repair symbol twice.
 pub fn triangle(
     alloc: Global,
     k: u32,
@@ -29,8 +29,10 @@ pub fn triangle(
     requires greatest { n1 ≤ 10 }
     requires positive_seed { 1 ≤ seed }
     requires seed { seed ≤ MAX_SEED }
-    ensures ok { IfOk result (λ built. triangle_matrix k n n1 seed limit ≡ Some (record { matrix = built.code; draws = built.draws })) }
-    ensures draw_limit { result ≡ Err BuildRefusal.DrawLimit → triangle_matrix k n n1 seed limit ≡ None }
+    ensures ok { IfOk result (λ built. triangle_matrix k n n1 seed limit
+        ≡ Some (record { matrix = built.code; draws = built.draws })) }
+    ensures draw_limit { result ≡ Err BuildRefusal.DrawLimit
+        → triangle_matrix k n n1 seed limit ≡ None }
     ensures source { IfOk result (λ built. built.code.k ≡ k) }
     ensures symbols { IfOk result (λ built. built.code.n ≡ n) }
 {
@@ -53,8 +55,10 @@ fn add_chains(rows: &mut RowsBuilder, k: u32, count: u32, g: &mut Draws) -> Resu
     requires k { k ≡ rows.old.k }
     requires count { count ≡ rows.old.n - rows.old.k }
     requires within { g.old.used ≤ g.old.limit }
-    ensures ok { OnOk result (in_order count chain (drawn_matrix rows.old g.old) ≡ Some (drawn_matrix rows.new g.new)) }
-    ensures draw_limit { result ≡ Err BuildRefusal.DrawLimit → in_order count chain (drawn_matrix rows.old g.old) ≡ None }
+    ensures ok { OnOk result (in_order count chain (drawn_matrix rows.old g.old)
+        ≡ Some (drawn_matrix rows.new g.new)) }
+    ensures draw_limit { result ≡ Err BuildRefusal.DrawLimit
+        → in_order count chain (drawn_matrix rows.old g.old) ≡ None }
     ensures source { OnOk result (rows.new.k ≡ rows.old.k) }
     ensures encoding { OnOk result (rows.new.n ≡ rows.old.n) }
     ensures code { OnOk result (IsCode rows.new) }
@@ -71,8 +75,10 @@ fn add_chain(rows: &mut RowsBuilder, k: u32, r: u32, g: &mut Draws) -> Result<()
     requires k { k ≡ rows.old.k }
     requires row { r < rows.old.n - rows.old.k }
     requires within { g.old.used ≤ g.old.limit }
-    ensures ok { OnOk result (chain r (drawn_matrix rows.old g.old) ≡ Some (drawn_matrix rows.new g.new)) }
-    ensures draw_limit { result ≡ Err BuildRefusal.DrawLimit → chain r (drawn_matrix rows.old g.old) ≡ None }
+    ensures ok { OnOk result (chain r (drawn_matrix rows.old g.old)
+        ≡ Some (drawn_matrix rows.new g.new)) }
+    ensures draw_limit { result ≡ Err BuildRefusal.DrawLimit
+        → chain r (drawn_matrix rows.old g.old) ≡ None }
     ensures source { OnOk result (rows.new.k ≡ rows.old.k) }
     ensures encoding { OnOk result (rows.new.n ≡ rows.old.n) }
     ensures code { OnOk result (IsCode rows.new) }
