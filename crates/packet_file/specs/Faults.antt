@@ -1,5 +1,6 @@
 -- The faults of a file, each with the bytes that show it: what stands before a fault has none.
-use Rattle.std.specs.Prelude.{◌≡◌, ◌≢◌, ◌<◌, ◌≤◌, ◌+◌, ℕ, List, ◌∷◌, ◌++◌, length, take, Some, None, codes}
+use Rattle.std.specs.Prelude.{◌≡◌, ◌≢◌, ◌<◌, ◌≤◌, ◌+◌, ℕ, List, ◌∷◌, ◌++◌, length, take, Some, None}
+use Rattle.std.specs.Prelude.{codes}
 use Rattle.oti_fields.specs.Fields.{FitsBits, FitsIdBits, codec_number}
 use Rattle.oti_fields.specs.Faults.{field_fault}
 use Rattle.oti_fields.specs.declared.codec.Codec.{Codec}
@@ -8,7 +9,12 @@ use Rattle.oti_fields.specs.declared.identifier.PacketId.{PacketId}
 use Rattle.packet_file.specs.Header.{HeaderFields, header_bytes, source_counts, size_fault}
 use Rattle.packet_file.specs.Packets.{block_symbols, packet_bytes}
 use Rattle.packet_file.specs.declared.fault.FileFault.{FileFault}
-use Rattle.packet_file.specs.declared.fault.FileFault.TheVariants.{ShortHeader, BadMagic, BadVersion, BadCodec, BadReserved, Field, ShortPacket, NoSuchBlock, NoSuchSymbol, TooLarge, TooManyBlocks, TooManyPackets, ReadFault}
+use Rattle.packet_file.specs.declared.fault.FileFault.TheVariants.{ShortHeader, BadMagic}
+use Rattle.packet_file.specs.declared.fault.FileFault.TheVariants.{BadVersion, BadCodec}
+use Rattle.packet_file.specs.declared.fault.FileFault.TheVariants.{BadReserved, Field, ShortPacket}
+use Rattle.packet_file.specs.declared.fault.FileFault.TheVariants.{NoSuchBlock, NoSuchSymbol}
+use Rattle.packet_file.specs.declared.fault.FileFault.TheVariants.{TooLarge, TooManyBlocks}
+use Rattle.packet_file.specs.declared.fault.FileFault.TheVariants.{TooManyPackets, ReadFault}
 
 -- no codec has the number
 abbrev pub IsNoCodec : ℕ → Type 0
@@ -20,19 +26,25 @@ AreNotZero a b = ¬ ((a ≡ 0) × (b ≡ 0))
 
 -- the bytes spell fields of which this is the first fault
 abbrev pub HasFieldFault : List ℕ → FieldFault → Type 0
-HasFieldFault bytes fault = (h : HeaderFields) × FitsBits h.oti × (bytes ≡ header_bytes h) × (field_fault h.codec h.oti ≡ Some fault)
+HasFieldFault bytes fault = (h : HeaderFields) × FitsBits h.oti × (bytes ≡ header_bytes h)
+    × (field_fault h.codec h.oti ≡ Some fault)
 
 -- the bytes spell fields without a fault, and this is the first limit that their sizes pass
 abbrev pub HasSizeFault : List ℕ → FileFault → Type 0
-HasSizeFault bytes fault = (h : HeaderFields) × FitsBits h.oti × (bytes ≡ header_bytes h) × (field_fault h.codec h.oti ≡ None) × (size_fault h ≡ Some fault)
+HasSizeFault bytes fault = (h : HeaderFields) × FitsBits h.oti × (bytes ≡ header_bytes h)
+    × (field_fault h.codec h.oti ≡ None) × (size_fault h ≡ Some fault)
 
 -- 26 bytes, or fewer where the input ended, are no header, and this is their first fault
 abbrev pub HasHeaderFault : List ℕ → FileFault → Type 0
 HasHeaderFault bytes (ShortHeader have) = (length bytes ≡ have) × (have < 26)
 HasHeaderFault bytes BadMagic = (length bytes ≡ 26) × (take 4 bytes ≢ codes "OFPK")
-HasHeaderFault bytes (BadVersion version) = (length bytes ≡ 26) × (rest : List ℕ) × (bytes ≡ codes "OFPK" ++ version ∷ rest) × (version ≢ 1)
-HasHeaderFault bytes (BadCodec number) = (length bytes ≡ 26) × (rest : List ℕ) × (bytes ≡ codes "OFPK" ++ 1 ∷ number ∷ rest) × IsNoCodec number
-HasHeaderFault bytes BadReserved = (length bytes ≡ 26) × (codec : Codec) × (a : ℕ) × (b : ℕ) × (rest : List ℕ) × (bytes ≡ codes "OFPK" ++ 1 ∷ codec_number codec ∷ a ∷ b ∷ rest) × AreNotZero a b
+HasHeaderFault bytes (BadVersion version) = (length bytes ≡ 26) × (rest : List ℕ)
+    × (bytes ≡ codes "OFPK" ++ version ∷ rest) × (version ≢ 1)
+HasHeaderFault bytes (BadCodec number) = (length bytes ≡ 26) × (rest : List ℕ)
+    × (bytes ≡ codes "OFPK" ++ 1 ∷ number ∷ rest) × IsNoCodec number
+HasHeaderFault bytes BadReserved = (length bytes ≡ 26) × (codec : Codec) × (a : ℕ) × (b : ℕ)
+    × (rest : List ℕ) × (bytes ≡ codes "OFPK" ++ 1 ∷ codec_number codec ∷ a ∷ b ∷ rest)
+    × AreNotZero a b
 HasHeaderFault bytes (Field fault) = HasFieldFault bytes fault
 HasHeaderFault bytes (TooLarge limit) = HasSizeFault bytes (TooLarge limit)
 HasHeaderFault bytes TooManyBlocks = HasSizeFault bytes TooManyBlocks
@@ -44,14 +56,21 @@ HasHeaderFault bytes ReadFault = ⊥
 
 -- the bytes are those of a packet, with this identifier
 abbrev pub IsPiece : HeaderFields → List ℕ → PacketId → Type 0
-IsPiece h bytes id = (symbol : List ℕ) × FitsIdBits id × (length symbol ≡ h.oti.symbol) × (bytes ≡ packet_bytes id symbol)
+IsPiece h bytes id = (symbol : List ℕ) × FitsIdBits id × (length symbol ≡ h.oti.symbol)
+    × (bytes ≡ packet_bytes id symbol)
 
--- as many bytes as a packet has, or fewer where the input ended, are no packet number `index` of at most `limit`, and this is their first fault
+-- as many bytes as a packet has, or fewer where the input ended, are no packet number `index` of at
+-- most `limit`, and this is their first fault
 abbrev pub HasPacketFault : HeaderFields → ℕ → ℕ → List ℕ → FileFault → Type 0
-HasPacketFault h index limit bytes TooManyPackets = (index ≡ limit) × (0 < length bytes) × (length bytes ≤ 4 + h.oti.symbol)
-HasPacketFault h index limit bytes (ShortPacket i have) = (index < limit) × (i ≡ index) × (length bytes ≡ have) × (0 < have) × (have < 4 + h.oti.symbol)
-HasPacketFault h index limit bytes (NoSuchBlock i sbn) = (index < limit) × (i ≡ index) × (id : PacketId) × IsPiece h bytes id × (id.sbn ≡ sbn) × (length (source_counts h) ≤ sbn)
-HasPacketFault h index limit bytes (NoSuchSymbol i esi) = (index < limit) × (i ≡ index) × (id : PacketId) × IsPiece h bytes id × (id.sbn < length (source_counts h)) × (id.esi ≡ esi) × (block_symbols h id.sbn ≤ esi)
+HasPacketFault h index limit bytes TooManyPackets = (index ≡ limit) × (0 < length bytes)
+    × (length bytes ≤ 4 + h.oti.symbol)
+HasPacketFault h index limit bytes (ShortPacket i have) = (index < limit) × (i ≡ index)
+    × (length bytes ≡ have) × (0 < have) × (have < 4 + h.oti.symbol)
+HasPacketFault h index limit bytes (NoSuchBlock i sbn) = (index < limit) × (i ≡ index)
+    × (id : PacketId) × IsPiece h bytes id × (id.sbn ≡ sbn) × (length (source_counts h) ≤ sbn)
+HasPacketFault h index limit bytes (NoSuchSymbol i esi) = (index < limit) × (i ≡ index)
+    × (id : PacketId) × IsPiece h bytes id × (id.sbn < length (source_counts h)) × (id.esi ≡ esi)
+    × (block_symbols h id.sbn ≤ esi)
 HasPacketFault h index limit bytes (ShortHeader have) = ⊥
 HasPacketFault h index limit bytes BadMagic = ⊥
 HasPacketFault h index limit bytes (BadVersion version) = ⊥

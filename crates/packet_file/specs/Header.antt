@@ -1,5 +1,6 @@
 -- The header of a packet file, version 1, and the blocks that it speaks of.
-use Rattle.std.specs.Prelude.{◌≡◌, ℕ, ◌*◌, Bool, nat_lt, if◌then◌else◌, List, ◌∷◌, ◌++◌, Option, Some, None, map, sum, codes}
+use Rattle.std.specs.Prelude.{◌≡◌, ℕ, ◌*◌, Bool, nat_lt, if◌then◌else◌, List, ◌∷◌, ◌++◌, Option}
+use Rattle.std.specs.Prelude.{Some, None, map, sum, codes}
 use Rattle.std.specs.List.{list_any}
 use Rattle.parity_2d.specs.Grid.{size_2d}
 use Rattle.blocking.specs.Blocks.{block_count, block_sizes, scaled}
@@ -8,7 +9,8 @@ use Rattle.oti_fields.specs.Faults.{field_fault}
 use Rattle.oti_fields.specs.declared.codec.Codec.{Codec}
 use Rattle.oti_fields.specs.declared.codec.Codec.TheVariants.{Staircase, Triangle, Parity2d}
 use Rattle.oti_fields.specs.declared.oti.Oti.{Oti}
-use Rattle.packet_file.specs.declared.fault.Limit.TheVariants.{Length, BlockBytes, AllSymbols, AllBytes}
+use Rattle.packet_file.specs.declared.fault.Limit.TheVariants.{Length, BlockBytes, AllSymbols}
+use Rattle.packet_file.specs.declared.fault.Limit.TheVariants.{AllBytes}
 use Rattle.packet_file.specs.declared.fault.FileFault.{FileFault}
 use Rattle.packet_file.specs.declared.fault.FileFault.TheVariants.{TooLarge, TooManyBlocks}
 
@@ -41,7 +43,8 @@ total_symbols h = sum (map (symbol_count h) (source_counts h))
 
 -- whether some block has more than 268,435,456 bytes of encoding symbols
 abbrev pub has_large_block : HeaderFields → Bool
-has_large_block h = list_any (λ k. nat_lt 268435456 (symbol_count h k * h.oti.symbol)) (source_counts h)
+has_large_block h = list_any (λ k. nat_lt 268435456 (symbol_count h k * h.oti.symbol))
+    (source_counts h)
 
 -- the first limit that the sizes pass, if they pass one
 abbrev pub size_fault : HeaderFields → Option FileFault

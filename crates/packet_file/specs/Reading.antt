@@ -7,13 +7,24 @@ use Rattle.packet_file.specs.declared.fault.FileFault.{FileFault}
 
 -- at most so many bytes were taken
 abbrev pub TakesAtMost : Option (List ℕ) → Option (List ℕ) → ℕ → Type 0
-TakesAtMost left left_now most = (bytes : List ℕ) × Consumes left left_now bytes × (length bytes ≤ most)
+TakesAtMost left left_now most = (bytes : List ℕ) × Consumes left left_now bytes
+    × (length bytes ≤ most)
 
--- the bytes that were taken are no header, with this fault; they are fewer than a header has only where the input ended
+-- fewer bytes were taken than so many
+abbrev pub TakesFewer : Option (List ℕ) → Option (List ℕ) → ℕ → Type 0
+TakesFewer left left_now most = (bytes : List ℕ) × Consumes left left_now bytes
+    × (length bytes < most)
+
+-- the bytes that were taken are no header, with this fault; they are fewer than a header has only
+-- where the input ended
 abbrev pub FailsAtHeader : FileFault → Option (List ℕ) → Option (List ℕ) → Type 0
-FailsAtHeader fault left left_now = (bytes : List ℕ) × Consumes left left_now bytes × HasHeaderFault bytes fault × (length bytes < 26 → IsAtEnd left_now)
+FailsAtHeader fault left left_now = (bytes : List ℕ) × Consumes left left_now bytes
+    × HasHeaderFault bytes fault × (length bytes < 26 → IsAtEnd left_now)
 
--- the bytes that were taken are no packet, with this fault; they are fewer than a packet has only where the input ended
-abbrev pub FailsAtPacket : FileFault → HeaderFields → ℕ → ℕ → Option (List ℕ) → Option (List ℕ) → Type 0
+-- the bytes that were taken are no packet, with this fault; they are fewer than a packet has only
+-- where the input ended
+abbrev pub FailsAtPacket : FileFault → HeaderFields → ℕ → ℕ → Option (List ℕ) → Option (List ℕ)
+    → Type 0
 FailsAtPacket fault h index limit left left_now =
-    (bytes : List ℕ) × Consumes left left_now bytes × HasPacketFault h index limit bytes fault × (length bytes < 4 + h.oti.symbol → IsAtEnd left_now)
+    (bytes : List ℕ) × Consumes left left_now bytes × HasPacketFault h index limit bytes fault
+    × (length bytes < 4 + h.oti.symbol → IsAtEnd left_now)

@@ -1,8 +1,10 @@
 // The header, and the sizes of its blocks.
-ghost use Rattle.std.specs.Prelude.{◌≡◌, ◌<◌, ◌≤◌, ◌*◌, length, slice_index, Some, None, IfOk, IfErr, OnOk};
+ghost use Rattle.std.specs.Prelude.{◌≡◌, ◌<◌, ◌≤◌, ◌*◌, length, slice_index, Some, None, IfOk};
+ghost use Rattle.std.specs.Prelude.{IfErr, OnOk};
 ghost use Rattle.oti_fields.specs.Fields.{FitsBits};
 ghost use Rattle.oti_fields.specs.Faults.{field_fault};
-ghost use Rattle.packet_file.specs.Header.{IsHeader, size_fault, source_counts, symbols_by, total_symbols};
+ghost use Rattle.packet_file.specs.Header.{IsHeader, size_fault, source_counts, symbols_by};
+ghost use Rattle.packet_file.specs.Header.{total_symbols};
 ghost use Rattle.packet_file.specs.Packets.{block_symbols};
 ghost use Rattle.blocking.specs.Blocks.{block_count};
 
@@ -38,7 +40,8 @@ impl Model for Header {
 
     ghost view = { λ h. record { codec = h.codec; oti = h.oti } };
 
-    ghost invariant = { λ h. IsHeader (record { codec = h.codec; oti = h.oti }) × (h.plan ≡ source_counts (record { codec = h.codec; oti = h.oti })) };
+    ghost invariant = { λ h. IsHeader (record { codec = h.codec; oti = h.oti })
+        × (h.plan ≡ source_counts (record { codec = h.codec; oti = h.oti })) };
 }
 
 impl Header {
@@ -48,7 +51,8 @@ impl Header {
         requires bits { FitsBits oti }
         requires fields { field_fault codec oti ≡ None }
         ensures ok { IfOk result (λ h. h ≡ record { codec = codec; oti = oti }) }
-        ensures err { IfErr result (λ fault. size_fault (record { codec = codec; oti = oti }) ≡ Some fault) }
+        ensures err { IfErr result (λ fault. size_fault (record { codec = codec; oti = oti })
+            ≡ Some fault) }
     {
         if oti.length > MOST_BYTES {
             return Err(FileFault::TooLarge(Limit::Length));
@@ -159,7 +163,8 @@ fn check_sizes(codec: Codec, oti: &Oti, plan: &Plan) -> Result<(), FileFault>
     requires few { block_count oti.now.length oti.now.symbol oti.now.block ≤ 4096 }
     requires plan { plan.now ≡ source_counts (record { codec = codec; oti = oti.now }) }
     ensures ok { OnOk result (size_fault (record { codec = codec; oti = oti.now }) ≡ None) }
-    ensures err { IfErr result (λ fault. size_fault (record { codec = codec; oti = oti.now }) ≡ Some fault) }
+    ensures err { IfErr result (λ fault. size_fault (record { codec = codec; oti = oti.now })
+        ≡ Some fault) }
 {
     if plan.count() == 0 {
         return Ok(());

@@ -1,12 +1,13 @@
 // The header as bytes.
-ghost use Rattle.std.specs.Prelude.{◌≡◌, ◌≢◌, ◌≤◌, ◌++◌, ◌∷◌, [], take, codes, IfOk, IfErr, OnOk, OnErr};
+ghost use Rattle.std.specs.Prelude.{◌≡◌, ◌≢◌, ◌≤◌, ◌++◌, ◌∷◌, [], take, codes, IfOk, IfErr, OnOk};
+ghost use Rattle.std.specs.Prelude.{OnErr};
 ghost use Rattle.std.specs.Io.KnownBytes.{Appends, Consumes};
 ghost use Rattle.fec_base.specs.Bytes.{AppendsFront};
 ghost use Rattle.fec_base.specs.Causes.{HasCause, Rose};
 ghost use Rattle.oti_fields.specs.Fields.{codec_number};
 ghost use Rattle.packet_file.specs.Header.{IsHeader, header_bytes};
 ghost use Rattle.packet_file.specs.Faults.{HasHeaderFault};
-ghost use Rattle.packet_file.specs.Reading.{FailsAtHeader, TakesAtMost};
+ghost use Rattle.packet_file.specs.Reading.{FailsAtHeader, TakesAtMost, TakesFewer};
 
 use crate::{FileFault, Header};
 use fec_base::{ReadFailed, Sink, Source, WriteFailed, read_full, write_all};
@@ -25,8 +26,11 @@ const VERSION: u8 = 1;
 pub fn read_header<S: Source>(src: &mut S) -> Result<Header, FileFault>
     ensures bytes { IfOk result (λ h. Consumes (S.left src.old) (S.left src.new) (header_bytes h)) }
     ensures header { IfOk result IsHeader }
-    ensures fault { IfErr result (λ fault. fault ≢ FileFault.ReadFault → FailsAtHeader fault (S.left src.old) (S.left src.new)) }
+    ensures fault { IfErr result (λ fault. fault ≢ FileFault.ReadFault
+        → FailsAtHeader fault (S.left src.old) (S.left src.new)) }
     ensures read { result ≡ Err FileFault.ReadFault → Rose (S.faults src.old) (S.faults src.new) }
+    ensures cut { result ≡ Err FileFault.ReadFault
+        → TakesFewer (S.left src.old) (S.left src.new) 26 }
     ensures taken { TakesAtMost (S.left src.old) (S.left src.new) 26 }
     ensures later { S.faults src.old ≤ S.faults src.new }
 {
@@ -55,7 +59,8 @@ fn parse_header(bytes: &[u8; HEADER_LEN]) -> Result<Header, FileFault>
 
 // The codec of a header, whose first eight bytes have no fault.
 fn parse_codec(bytes: &[u8; HEADER_LEN]) -> Result<Codec, FileFault>
-    ensures ok { IfOk result (λ codec. take 8 bytes.now ≡ codes "OFPK" ++ 1 ∷ codec_number codec ∷ 0 ∷ 0 ∷ []) }
+    ensures ok { IfOk result (λ codec. take 8 bytes.now
+        ≡ codes "OFPK" ++ 1 ∷ codec_number codec ∷ 0 ∷ 0 ∷ []) }
     ensures fault { IfErr result (λ fault. HasHeaderFault bytes.now fault) }
 {
     if bytes[..4] != MAGIC[..] {
@@ -75,8 +80,10 @@ fn parse_codec(bytes: &[u8; HEADER_LEN]) -> Result<Codec, FileFault>
 
 /// Writes the 26 bytes of a header. After `WriteFailed` the sink has a front of them.
 pub fn write_header<K: Sink>(sink: &mut K, h: &Header) -> Result<(), WriteFailed>
-    ensures written { OnOk result (Appends (K.held sink.old) (K.held sink.new) (header_bytes h.now)) }
-    ensures cut { OnErr result (AppendsFront (K.held sink.old) (K.held sink.new) (header_bytes h.now)) }
+    ensures written { OnOk result
+        (Appends (K.held sink.old) (K.held sink.new) (header_bytes h.now)) }
+    ensures cut { OnErr result
+        (AppendsFront (K.held sink.old) (K.held sink.new) (header_bytes h.now)) }
     ensures cause { HasCause (K.faults sink.old) (K.faults sink.new) result }
 {
     write_all(sink, &spell_header(h))

@@ -1,11 +1,12 @@
 // The packets of a file.
-ghost use Rattle.std.specs.Prelude.{◌≡◌, ◌≢◌, ◌<◌, ◌≤◌, ◌+◌, [], length, drop, IfOk, IfErr, IfSome, OnOk, OnErr, Ok, None};
+ghost use Rattle.std.specs.Prelude.{◌≡◌, ◌≢◌, ◌<◌, ◌≤◌, ◌+◌, [], length, drop, IfOk, IfErr, IfSome};
+ghost use Rattle.std.specs.Prelude.{OnOk, OnErr, Ok, None};
 ghost use Rattle.std.specs.Io.KnownBytes.{Appends, Consumes, IsAtEnd};
 ghost use Rattle.fec_base.specs.Bytes.{AppendsFront};
 ghost use Rattle.fec_base.specs.Causes.{HasCause, Rose};
 ghost use Rattle.packet_file.specs.Packets.{IsIdOf, packet_bytes};
 ghost use Rattle.packet_file.specs.Faults.{HasPacketFault};
-ghost use Rattle.packet_file.specs.Reading.{FailsAtPacket, TakesAtMost};
+ghost use Rattle.packet_file.specs.Reading.{FailsAtPacket, TakesAtMost, TakesFewer};
 
 use crate::{FileFault, Header};
 use fec_base::{ReadFailed, Sink, Source, WriteFailed, read_full, write_all};
@@ -28,13 +29,22 @@ pub fn next_packet<S: Source>(
 ) -> Result<Option<PacketId>, FileFault>
     requires buf { length buf.old ≡ 4 + h.now.oti.symbol }
     requires index { index ≤ limit }
-    ensures packet { IfOk result (λ found. IfSome found (λ id. Consumes (S.left src.old) (S.left src.new) (packet_bytes id (drop 4 buf.new)))) }
+    ensures packet { IfOk result
+        (λ found. IfSome found
+        (λ id. Consumes (S.left src.old) (S.left src.new) (packet_bytes id (drop 4 buf.new)))) }
+    ensures spelled { IfOk result (λ found. IfSome found (λ id. buf.new
+        ≡ packet_bytes id (drop 4 buf.new))) }
     ensures id { IfOk result (λ found. IfSome found (IsIdOf h.now)) }
     ensures within { IfOk result (λ found. IfSome found (λ id. index < limit)) }
-    ensures end { result ≡ Ok None → Consumes (S.left src.old) (S.left src.new) [] × IsAtEnd (S.left src.new) }
-    ensures fault { IfErr result (λ fault. fault ≢ FileFault.ReadFault → FailsAtPacket fault h.now index limit (S.left src.old) (S.left src.new)) }
+    ensures end { result ≡ Ok None → Consumes (S.left src.old) (S.left src.new) []
+        × IsAtEnd (S.left src.new) }
+    ensures fault { IfErr result (λ fault. fault ≢ FileFault.ReadFault
+        → FailsAtPacket fault h.now index limit (S.left src.old) (S.left src.new)) }
     ensures read { result ≡ Err FileFault.ReadFault → Rose (S.faults src.old) (S.faults src.new) }
-    ensures taken { OnErr result (TakesAtMost (S.left src.old) (S.left src.new) (4 + h.now.oti.symbol)) }
+    ensures cut { result ≡ Err FileFault.ReadFault
+        → TakesFewer (S.left src.old) (S.left src.new) (4 + h.now.oti.symbol) }
+    ensures taken { OnErr result
+        (TakesAtMost (S.left src.old) (S.left src.new) (4 + h.now.oti.symbol)) }
     ensures length { length buf.new ≡ length buf.old }
     ensures later { S.faults src.old ≤ S.faults src.new }
 {
@@ -84,8 +94,10 @@ pub fn write_packet<K: Sink>(
 ) -> Result<(), WriteFailed>
     requires id { IsIdOf h.now id }
     requires symbol { length symbol.now ≡ h.now.oti.symbol }
-    ensures written { OnOk result (Appends (K.held sink.old) (K.held sink.new) (packet_bytes id symbol.now)) }
-    ensures cut { OnErr result (AppendsFront (K.held sink.old) (K.held sink.new) (packet_bytes id symbol.now)) }
+    ensures written { OnOk result
+        (Appends (K.held sink.old) (K.held sink.new) (packet_bytes id symbol.now)) }
+    ensures cut { OnErr result
+        (AppendsFront (K.held sink.old) (K.held sink.new) (packet_bytes id symbol.now)) }
     ensures cause { HasCause (K.faults sink.old) (K.faults sink.new) result }
 {
     // A header's limits let the identifier fit into its bits.
