@@ -1,0 +1,9 @@
+pub mod Walk
+pub mod Shown
+pub mod Runs
+pub mod Values
+pub mod Calls
+pub mod Whole
+pub mod Ranges
+pub mod Laid
+pub mod Summed
