@@ -6,12 +6,12 @@ use Rattle.std.proofs.lemmas.List.Elements.{All-head, All-tail, All-from_get_or}
 use Rattle.std.specs.List.{range_with_len}
 use Rattle.std.proofs.lemmas.List.{get_or_append_left}
 use Rattle.std.proofs.Math.Seq.{get_or-append_seam}
-use Rattle.sparse_rows.specs.Symbol.{xor_sum, xor}
+use Rattle.fec_base.specs.Symbol.{xor_sum, xor}
 use Rattle.sparse_rows.specs.Matrix.{Matrix, HasShape}
 use Rattle.sparse_rows.specs.Codeword.{Arrival, Fits, positions}
 use Rattle.sparse_rows.specs.Closure.{Set, IsWithin, HasSameMembers, adding, closure, fresh, members}
 use Rattle.peeling.specs.Agree.{Agree}
-use Rattle.peeling.specs.Stands.{IsConsistent}
+use Rattle.sparse_rows.specs.Determined.{IsConsistent}
 use Rattle.sparse_rows.proofs.Sets.{any_at, same_test, or_none, or_cases, or_first, or_second, rounds_hold, rounds_within, rounds_grow}
 use Rattle.peeling.proofs.Closure.{closure_rests}
 use Rattle.peeling.proofs.Determined.{symbols_agree}

@@ -8,7 +8,8 @@ use Rattle.sparse_rows.specs.Closure.{flagged, HasSameMembers, IsWithin, closure
 use Rattle.sparse_rows.proofs.Planes.{symbol_at_is}
 use Rattle.peeling.specs.Agree.{Agree}
 use Rattle.peeling.specs.Decoder.{Decoder, kept}
-use Rattle.peeling.specs.Stands.{IsConsistent, StandsFor}
+use Rattle.sparse_rows.specs.Determined.{IsConsistent}
+use Rattle.peeling.specs.Stands.{StandsFor}
 use Rattle.peeling.specs.Laws.{HasSameArrivals}
 use Rattle.sparse_rows.proofs.Sets.{any_at, any_from, same_test, true_or_false}
 use Rattle.peeling.proofs.Arrivals.{consistent_agree}

@@ -4,7 +4,8 @@ use Rattle.sparse_rows.specs.Matrix.{Matrix}
 use Rattle.sparse_rows.specs.Codeword.{IsAssignment, SumsToZeroWithin}
 use Rattle.sparse_rows.specs.Closure.{Set, closure}
 use Rattle.sparse_rows.proofs.Closed.{agree_closure}
-use Rattle.sparse_rows.proofs.Planes.{byte, byte_laws, plane_zero, same_bytes}
+use Rattle.fec_base.proofs.SymbolBytes.{byte, same_bytes}
+use Rattle.sparse_rows.proofs.Planes.{byte_laws, plane_zero}
 use Rattle.peeling.specs.Agree.{Agree}
 
 pub symbols_agree : (m : Matrix) (len : ℕ) (s : Set) (x y : ℕ → List ℕ) → IsAssignment len x → IsAssignment len y

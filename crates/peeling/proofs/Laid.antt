@@ -1,16 +1,13 @@
--- Symbols that lie one after the other, with a flag each.
+-- Symbols of positions, with a flag each, and one symbol put in the place of another.
 use mathlib.Core.Path.{fun_ext}
-use Rattle.std.proofs.Common.{inl, inr, ◌⊎◌, true≢false, eq-or-lt_of_le, Fits, w8, rules, ◌≡◌, ℕ, ◌+◌, ◌-◌, ◌*◌, ◌<◌, ◌≤◌, ⊎_elim, Bool, true, false, cond, ◌==◌, List, ◌++◌, length, get_or, take, drop, replicate, All, refl, sym, ap, ◌∙◌, arith, eqb-true, eq-eqb, length-append, length-drop, length-take-le, drop-drop, ◌||◌, set, length-set}
-use Rattle.std.proofs.lemmas.Bool.{cases_lt, ne_eqb}
-use Rattle.std.proofs.Math.Seq.{take_at, drop_at}
-use Rattle.std.proofs.lemmas.List.{get_or_past, take-replicate, drop-replicate}
-use Rattle.std.proofs.lemmas.List.Elements.{All-from_get_or, All-append, All-take, All-drop}
-use Rattle.sparse_rows.specs.Symbol.{IsSymbol, zero_symbol, symbols_of}
-use Rattle.sparse_rows.specs.Codeword.{IsAssignment}
+use Rattle.std.proofs.Common.{true≢false, Fits, w8, rules, ◌≡◌, ℕ, zero, suc, ◌<◌, ⊎_elim, Bool, true, false, cond, ◌==◌, List, [], ◌∷◌, length, min, take, get_or, set, replicate, All, refl, sym, ap, ◌∙◌, arith, eqb-true, eq-eqb, ◌||◌, length-set, get_or-set_same, get_or-set_other}
+use Rattle.std.proofs.lemmas.List.Elements.{All-from_get_or, All-set}
+use Rattle.std.proofs.lemmas.List.{length-take, get_or-take}
 use Rattle.sparse_rows.proofs.Planes.{symbol_at_is}
-use Rattle.sparse_rows.proofs.Symbols.{length_symbols, symbol_is, symbol_room, symbols_are, piece, piece_of_front}
+use Rattle.fec_base.specs.Symbol.{IsSymbol, zero_symbol}
+use Rattle.sparse_rows.specs.Codeword.{symbol_at}
 use Rattle.sparse_rows.specs.Closure.{flagged, adding}
-use Rattle.peeling.specs.Peeled.{laid, IsLaid}
+use Rattle.peeling.specs.Peeled.{IsLaid}
 use Rattle.sparse_rows.proofs.Sets.{true_or_false}
 use Rattle.peeling.proofs.Flags.{flagged_set}
 
@@ -18,97 +15,37 @@ use Rattle.peeling.proofs.Flags.{flagged_set}
 pub bytes_small : (bytes : List ℕ) → ((i : ℕ) → Fits w8 (get_or bytes i 0)) → All (λ b. b < 256) bytes
 bytes_small bytes fits = All-from_get_or (λ b. b < 256) bytes 0 (λ i lt. let h : Fits w8 (get_or bytes i 0) = fits i in search (rules, h))
 
--- they are symbols
-pub laid_is : (len n : ℕ) (bytes : List ℕ) → length bytes ≡ n * len → All (λ b. b < 256) bytes → IsAssignment len (laid len n bytes)
-laid_is len n bytes long small = symbol_at_is len (symbols_of len n bytes) (symbols_are len n bytes (omega (arith, long)) small)
+-- a default doesn't matter where a symbol is
+pub symbol_there : (len : ℕ) (symbols : List (List ℕ)) (c : ℕ) → c < length symbols → get_or symbols c [] ≡ symbol_at len symbols c
+symbol_there len [] c lt = absurd (omega arith)
+symbol_there len (s ∷ symbols) zero lt = refl
+symbol_there len (s ∷ symbols) (suc c) lt = symbol_there len symbols c (omega arith)
 
--- the symbol of a position
-pub laid_at : (len n : ℕ) (bytes : List ℕ) (c : ℕ) → c < n → laid len n bytes c ≡ piece len bytes c
-laid_at len n bytes c lt = symbol_is len n bytes c (zero_symbol len) lt
-
-pub piece_room : (len n : ℕ) (bytes : List ℕ) (c : ℕ) → length bytes ≡ n * len → c < n → c * len + len ≤ length bytes
-piece_room len n bytes c long lt = omega (arith, symbol_room len n c lt, long)
-
-pub piece_long : (len n : ℕ) (bytes : List ℕ) (c : ℕ) → length bytes ≡ n * len → c < n → length (piece len bytes c) ≡ len
-piece_long len n bytes c long lt = length-take-le len (drop (c * len) bytes) (omega (arith, length-drop (c * len) bytes, piece_room len n bytes c long lt))
-
--- past the end they are zero
-pub laid_past : (len n : ℕ) (bytes : List ℕ) (c : ℕ) → n ≤ c → laid len n bytes c ≡ zero_symbol len
-laid_past len n bytes c le = get_or_past (symbols_of len n bytes) c (zero_symbol len) (omega (arith, length_symbols len n bytes))
-
--- zero bytes are zero symbols
-pub laid_zero : (len n c : ℕ) → laid len n (replicate (n * len) 0) c ≡ zero_symbol len
-laid_zero len n c = ⊎_elim
-    (λ (lt : c < n). laid_at len n (replicate (n * len) 0) c lt ∙ ap (take len) (drop-replicate (c * len) (n * len) 0)
-    ∙ take-replicate len (n * len - c * len) 0 (omega (arith, symbol_room len n c lt)))
-    (λ (le : n ≤ c). laid_past len n (replicate (n * len) 0) c le)
-    (cases_lt c n)
+pub zeros_at : (len n c : ℕ) → symbol_at len (replicate n (zero_symbol len)) c ≡ zero_symbol len
+zeros_at len zero c = refl
+zeros_at len (suc n) zero = refl
+zeros_at len (suc n) (suc c) = zeros_at len n c
 
 -- one symbol put in the place of another
 abbrev pub keeping : ℕ → List ℕ → (ℕ → List ℕ) → ℕ → List ℕ
 keeping e symbol x c = cond (e == c) symbol (x c)
 
-module _ (len n : ℕ) (bytes symbol : List ℕ) (e : ℕ) (long : length bytes ≡ n * len) (symbol_long : length symbol ≡ len) (inside : e < n) where
-  abbrev new : List ℕ
-  new = take (e * len) bytes ++ (symbol ++ drop (e * len + len) bytes)
-
-  front_long : length (take (e * len) bytes) ≡ e * len
-  front_long = length-take-le (e * len) bytes (omega (arith, long, symbol_room len n e inside))
-
-  front_is : take (e * len) new ≡ take (e * len) bytes
-  front_is = take_at (take (e * len) bytes) (symbol ++ drop (e * len + len) bytes) (e * len) front_long
-
-  rest_is : drop (e * len) new ≡ symbol ++ drop (e * len + len) bytes
-  rest_is = drop_at (take (e * len) bytes) (symbol ++ drop (e * len + len) bytes) (e * len) front_long
-
-  behind_is : drop (e * len + len) new ≡ drop (e * len + len) bytes
-  behind_is = sym (drop-drop len (e * len) new) ∙ ap (drop len) rest_is ∙ drop_at symbol (drop (e * len + len) bytes) len symbol_long
-
-  at_place : piece len new e ≡ symbol
-  at_place = ap (take len) rest_is ∙ take_at symbol (drop (e * len + len) bytes) len symbol_long
-
-  before_place : (c : ℕ) → c < e → piece len new c ≡ piece len bytes c
-  before_place c lt =
-      let room : c * len + len ≤ e * len = symbol_room len e c lt in
-      sym (piece_of_front len c (e * len) new room) ∙ ap (λ (xs : List ℕ). piece len xs c) front_is ∙ piece_of_front len c (e * len) bytes room
-
-  after_place : (c : ℕ) → e < c → piece len new c ≡ piece len bytes c
-  after_place c lt =
-      let room : e * len + len ≤ c * len = symbol_room len c e lt in
-      let parts : c * len ≡ e * len + len + (c * len - (e * len + len)) = omega arith in
-      ap (λ (at : ℕ). take len (drop at new)) parts ∙ ap (take len) (sym (drop-drop (c * len - (e * len + len)) (e * len + len) new) ∙ ap (drop (c * len - (e * len + len))) behind_is
-      ∙ drop-drop (c * len - (e * len + len)) (e * len + len) bytes) ∙ ap (λ (at : ℕ). take len (drop at bytes)) (sym parts)
-
-  pub put_long : length (take (e * len) bytes ++ (symbol ++ drop (e * len + len) bytes)) ≡ n * len
-  put_long = length-append (take (e * len) bytes) (symbol ++ drop (e * len + len) bytes)
-      ∙ omega (arith, front_long, length-append symbol (drop (e * len + len) bytes), symbol_long, length-drop (e * len + len) bytes, long, symbol_room len n e inside)
-
-  pub laid_put : laid len n (take (e * len) bytes ++ (symbol ++ drop (e * len + len) bytes)) ≡ keeping e symbol (laid len n bytes)
-  laid_put = fun_ext (λ c. ⊎_elim
-      (λ (lt : c < n). ⊎_elim
-      (λ (same : (e == c) ≡ true). let z : e ≡ c = eqb-true e c same in
-      rw same (laid_at len n new c lt ∙ ap (piece len new) (sym z) ∙ at_place))
-      (λ (other : (e == c) ≡ false). rw other (laid_at len n new c lt ∙ by_side c other (cases_lt c e) ∙ sym (laid_at len n bytes c lt)))
-      (true_or_false (e == c)))
-      (λ (le : n ≤ c). let other : (e == c) ≡ false = ne_eqb e c (omega arith) in
-      rw other (laid_past len n new c le ∙ sym (laid_past len n bytes c le)))
-      (cases_lt c n))
-    where
-      by_side : (c : ℕ) → (e == c) ≡ false → (c < e) ⊎ (e ≤ c) → piece len new c ≡ piece len bytes c
-      by_side c other (inl lt) = before_place c lt
-      by_side c other (inr le) = ⊎_elim (λ (z : e ≡ c). absurd (true≢false (sym (eq-eqb e c z) ∙ other))) (λ (lt : e < c). after_place c lt) (eq-or-lt_of_le le)
+pub symbols_put : (len : ℕ) (symbols : List (List ℕ)) (symbol : List ℕ) (e : ℕ) → e < length symbols → symbol_at len (set symbols e symbol) ≡ keeping e symbol (symbol_at len symbols)
+symbols_put len symbols symbol e inside = fun_ext (λ c. ⊎_elim
+    (λ (same : (e == c) ≡ true). let z : e ≡ c = eqb-true e c same in
+    ap (λ i. symbol_at len (set symbols e symbol) i) (sym z) ∙ get_or-set_same symbols e symbol (zero_symbol len) inside ∙ sym (ap (λ b. cond b symbol (symbol_at len symbols c)) same))
+    (λ (other : (e == c) ≡ false). get_or-set_other symbols e c symbol (zero_symbol len) (λ z. true≢false (sym (eq-eqb e c (sym z)) ∙ other)) ∙ sym (ap (λ b. cond b symbol (symbol_at len symbols c)) other))
+    (true_or_false (e == c)))
 
 -- a symbol that is put in its place, and its flag set
-pub laid_with : (n len : ℕ) (known : List Bool) (symbols : List ℕ) (e : ℕ) (symbol : List ℕ) → IsLaid n len known symbols → e < n → IsSymbol len symbol
-    → IsLaid n len (set known e true) (take (e * len) symbols ++ (symbol ++ drop (e * len + len) symbols))
+pub laid_with : (n len : ℕ) (known : List Bool) (symbols : List (List ℕ)) (e : ℕ) (symbol : List ℕ) → IsLaid n len known symbols → e < n → IsSymbol len symbol → IsLaid n len (set known e true) (set symbols e symbol)
 laid_with n len known symbols e symbol h inside is = record {
   flags = length-set known e true ∙ h.flags;
-  bytes = put_long len n symbols symbol e h.bytes is.long inside;
-  small = All-append (λ b. b < 256) (take (e * len) symbols) (symbol ++ drop (e * len + len) symbols) (All-take (λ b. b < 256) (e * len) symbols h.small)
-      (All-append (λ b. b < 256) symbol (drop (e * len + len) symbols) is.bytes (All-drop (λ b. b < 256) (e * len + len) symbols h.small));
+  count = length-set symbols e symbol ∙ h.count;
+  each = All-set (IsSymbol len) symbols e symbol is h.each;
   zero = λ c unset.
       let grown : adding e (flagged known) c ≡ false = sym (ap (λ s. s c) (flagged_set known e (rw h.flags inside))) ∙ unset in
-      ap (λ x. x c) (laid_put len n symbols symbol e h.bytes is.long inside) ∙ ap (λ b. cond b symbol (laid len n symbols c)) (or_false_second (flagged known c) (e == c) grown) ∙ h.zero c (or_false_first (flagged known c) (e == c) grown);
+      ap (λ x. x c) (symbols_put len symbols symbol e (rw h.count inside)) ∙ ap (λ b. cond b symbol (symbol_at len symbols c)) (or_false_second (flagged known c) (e == c) grown) ∙ h.zero c (or_false_first (flagged known c) (e == c) grown);
 }
   where
     or_false_first : (a b : Bool) → (a || b) ≡ false → a ≡ false
@@ -118,3 +55,13 @@ laid_with n len known symbols e symbol h inside is = record {
     or_false_second : (a b : Bool) → (a || b) ≡ false → b ≡ false
     or_false_second true b e = absurd (true≢false e)
     or_false_second false b e = e
+
+-- the symbols of n positions in front of others
+pub word_room : (n len : ℕ) (known : List Bool) (cells : List (List ℕ)) (e : ℕ) → IsLaid n len known (take n cells) → e < n → e < length cells
+word_room n len known cells e h lt = let front : length (take n cells) ≡ min n (length cells) = length-take n cells in omega (arith, front, h.count, lt)
+
+pub word_symbol : (n len : ℕ) (known : List Bool) (cells : List (List ℕ)) (e : ℕ) → IsLaid n len known (take n cells) → e < n → get_or cells e [] ≡ symbol_at len (take n cells) e
+word_symbol n len known cells e h lt = sym (get_or-take n cells e [] lt) ∙ symbol_there len (take n cells) e (omega (arith, lt, h.count))
+
+pub word_long : (n len : ℕ) (known : List Bool) (cells : List (List ℕ)) (e : ℕ) → IsLaid n len known (take n cells) → e < n → length (get_or cells e []) ≡ len
+word_long n len known cells e h lt = ap length (word_symbol n len known cells e h lt) ∙ (symbol_at_is len (take n cells) h.each e).long

@@ -4,7 +4,11 @@ pub mod Flags
 pub mod Laid
 pub mod Columns
 pub mod Peeled
-pub mod Pass
+pub mod UnderWay
+pub mod Counted
+pub mod Seen
+pub mod Listed
+pub mod Worked
 pub mod Arrivals
 pub mod Received
 pub mod Stored

@@ -1,21 +1,19 @@
 -- How peeling goes on, row by row.
-use Rattle.std.proofs.Common.{◌≡◌, ℕ, ◌+◌, ◌-◌, ◌<◌, ⊎_elim, Bool, true, false, cond, ◌==◌, List, [], ◌∷◌, ◌*◌, ◌++◌, length, get_or, set, take, drop, All, refl, sym, ap, ◌∙◌, subst, arith, true≢false, eqb-true, eq-eqb, bit_xor}
+use Rattle.std.proofs.Common.{◌≡◌, ℕ, ◌<◌, ⊎_elim, true, false, cond, ◌==◌, List, [], ◌∷◌, length, get_or, All, refl, sym, ap, ◌∙◌, subst, true≢false, eqb-true, eq-eqb, bit_xor}
 use Rattle.std.proofs.lemmas.Bool.{ne_eqb}
-use Rattle.sparse_rows.specs.Symbol.{IsSymbol, xor_sum, zero_symbol}
-use Rattle.sparse_rows.specs.Matrix.{Matrix, HasShape, IsCode, row_of}
+use Rattle.fec_base.specs.Symbol.{xor_sum, zero_symbol}
+use Rattle.sparse_rows.specs.Matrix.{Matrix, HasShape}
 use Rattle.sparse_rows.specs.Codeword.{IsAssignment, SumsToZeroWithin}
-use Rattle.sparse_rows.specs.Closure.{Set, flagged, IsWithin, HasSameMembers, outside, adding, round, closure}
-use Rattle.sparse_rows.proofs.Encode.{sum_is_symbol}
+use Rattle.sparse_rows.specs.Closure.{Set, IsWithin, HasSameMembers, outside, adding, round, closure}
 use Rattle.sparse_rows.proofs.Algebra.{total, one_left, closes}
-use Rattle.sparse_rows.proofs.Planes.{byte, byte_laws, byte_sum, byte_zero, plane_zero, same_bytes, length_sum}
+use Rattle.fec_base.proofs.SymbolBytes.{byte, byte_zero, same_bytes}
+use Rattle.sparse_rows.proofs.Planes.{byte_laws, byte_sum, plane_zero, length_sum}
 use Rattle.peeling.specs.Agree.{Agree}
-use Rattle.peeling.specs.Peeled.{laid, IsLaid, unset_count, IsAtRest, IsPeeled}
+use Rattle.peeling.specs.Peeled.{IsAtRest, IsPeeled}
 use Rattle.sparse_rows.proofs.Sets.{same_test, or_cases, or_first, outside_one, round_row, round_cases, round_holds, rounds_hold, rounds_within}
 use Rattle.peeling.proofs.Closure.{closure_rests}
 use Rattle.sparse_rows.proofs.Closed.{row_within}
-use Rattle.peeling.proofs.Flags.{flagged_set, unset_less}
-use Rattle.peeling.proofs.Laid.{keeping, laid_is, laid_put, laid_with}
-use Rattle.peeling.proofs.Columns.{single_below}
+use Rattle.peeling.proofs.Laid.{keeping}
 
 -- where peeling begins
 pub peeled_none : (m : Matrix) (len : ℕ) (s : Set) (x : ℕ → List ℕ) → IsPeeled m len s x s x
@@ -91,29 +89,3 @@ module _ (m : Matrix) (shape : HasShape m) (len : ℕ) (s : Set) (x : ℕ → Li
       keeps = at_other;
       forced = λ z is_z rows agree c e. ⊎_elim (λ f. sym (at_other c f) ∙ agree c f) (λ f. subst (λ b. y b ≡ z b) (eqb-true d c f) (forced_own z is_z rows agree)) (or_cases (s c) (d == c) e);
     }
-
--- ---- one row of a code, whose symbols lie one after the other
-
-module _ (m : Matrix) (code : IsCode m) (len r : ℕ) (lt : r < m.n - m.k) (known : List Bool) (symbols : List ℕ) (h : IsLaid m.n len known symbols) (d : ℕ) (one : outside (flagged known) (row_of m r) ≡ d ∷ [])
-    (sum : List ℕ) (sum_is : sum ≡ xor_sum len (laid len m.n symbols) (row_of m r)) where
-  is_laid : IsAssignment len (laid len m.n symbols)
-  is_laid = laid_is len m.n symbols h.bytes h.small
-
-  sum_symbol : IsSymbol len sum
-  sum_symbol = rw sum_is (sum_is_symbol len (laid len m.n symbols) is_laid (row_of m r))
-
-  below : d < m.n
-  below = single_below m code r lt (flagged known) d one
-
-  missing : flagged known d ≡ false
-  missing = unknown m code.shape len (flagged known) (laid len m.n symbols) is_laid r d (omega (arith, code.shape.count)) one
-
-  pub row_laid : IsLaid m.n len (set known d true) (take (d * len) symbols ++ (sum ++ drop (d * len + len) symbols))
-  row_laid = laid_with m.n len known symbols d sum h below sum_symbol
-
-  pub row_less : unset_count (set known d true) < unset_count known
-  row_less = unset_less known d (rw h.flags below) missing
-
-  pub row_peeled : IsPeeled m len (flagged known) (laid len m.n symbols) (flagged (set known d true)) (laid len m.n (take (d * len) symbols ++ (sum ++ drop (d * len + len) symbols)))
-  row_peeled = rw (flagged_set known d (rw h.flags below), laid_put len m.n symbols sum d h.bytes sum_symbol.long below)
-      (peeled_row m code.shape len (flagged known) (laid len m.n symbols) is_laid r d (omega (arith, code.shape.count)) one (h.zero d missing) sum sum_is)

@@ -1,9 +1,11 @@
 -- What contracts see of a decoder.
-use Rattle.std.specs.Prelude.{◌≡◌, ◌≤◌, ◌<◌, ◌&&◌, not, ℕ, Bool, true, false, List, [], length, replicate, count_by, All}
-use Rattle.sparse_rows.specs.Symbol.{IsSymbol}
+use Rattle.std.specs.Prelude.{◌≡◌, ◌≤◌, ◌<◌, ◌&&◌, not, ℕ, Bool, true, false, List, [], length}
+use Rattle.std.specs.Prelude.{replicate, count_by, All}
+use Rattle.fec_base.specs.Symbol.{IsSymbol}
 use Rattle.sparse_rows.specs.Matrix.{Matrix, IsCode}
 use Rattle.sparse_rows.specs.Codeword.{symbol_at}
 use Rattle.sparse_rows.specs.Closure.{HasSameMembers, flagged, members, closure}
+use Rattle.sparse_rows.specs.Columns.{entries}
 
 -- a decoder
 pub record Decoder : Type 0 where
@@ -25,17 +27,23 @@ set_count flags = count_by (λ flag. flag) flags
 
 -- the positions whose flag is set now and was not before, rising
 abbrev pub new_positions : List Bool → List Bool → List ℕ
-new_positions before now = members (length now) (λ position. flagged now position && not (flagged before position))
+new_positions before now = members (length now)
+    (λ position. flagged now position && not (flagged before position))
 
 -- the symbol that is kept at a position
 abbrev pub kept : Decoder → ℕ → List ℕ
 kept d = symbol_at d.len d.symbols
 
+-- the number of pairs of a row and one of its columns whose symbol is known
+abbrev pub known_entries : Decoder → ℕ
+known_entries d = entries d.matrix (flagged d.known)
+
 -- each source symbol is known
 abbrev pub HasAllSource : Decoder → Type 0
 HasAllSource d = (position : ℕ) → position < d.matrix.k → flagged d.known position ≡ true
 
--- flags and a symbol for each position of a code; the known positions are the closure of those that arrived
+-- flags and a symbol for each position of a code; the known positions are the closure of those that
+-- arrived
 pub record IsDecoder (d : Decoder) : Type 0 where
   pub code : IsCode d.matrix
   pub some : 1 ≤ d.len

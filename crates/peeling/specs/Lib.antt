@@ -4,5 +4,7 @@ pub mod Stands
 pub mod Laws
 pub mod Outcome
 pub mod Peeled
+pub mod Unknowns
+pub mod Worklist
 pub mod Storage
 pub mod Blank

@@ -1,5 +1,8 @@
 // Laws over the definitions alone.
-ghost use Rattle.peeling.specs.Laws.{ClosureRests, ClosureHolds, ClosureIsLeast, ClosureGrows, ClosureOfNone, ClosureWithSource, ClosureIsDetermined, KeptAreOfEachCodeword, KeptAreConsistent, ArrivalsDecideKnown, ArrivalsDecideSymbols};
+ghost use Rattle.peeling.specs.Laws.{ClosureRests, ClosureHolds, ClosureIsLeast, ClosureGrows};
+ghost use Rattle.peeling.specs.Laws.{ClosureOfNone, ClosureWithSource, ClosureIsDetermined};
+ghost use Rattle.peeling.specs.Laws.{KeptAreOfEachCodeword, KeptAreConsistent, ArrivalsDecideKnown};
+ghost use Rattle.peeling.specs.Laws.{ArrivalsDecideSymbols};
 
 /// The closure of a set of columns is the least set that holds it and to which a round of peeling
 /// adds nothing. It grows with the set. Where row i of a matrix ends with column k + i and holds a
@@ -26,8 +29,8 @@ pub fn kept_symbols_are_forced()
     ensures assignment { KeptAreConsistent }
 {}
 
-/// Neither the order of the arrivals nor repeats matter: the arrivals as a set decide which positions
-/// are known and, where some codeword fits, their symbols.
+/// Neither the order of the arrivals nor repeats matter: the arrivals as a set decide which
+/// positions are known and, where some codeword fits, their symbols.
 pub fn arrivals_decide()
     ensures known { ArrivalsDecideKnown }
     ensures symbols { ArrivalsDecideSymbols }

@@ -1,17 +1,22 @@
 // The decoder.
-ghost use Rattle.std.specs.Prelude.{◌≡◌, ◌↔◌, ◌<◌, ◌≤◌, true, false, [], IsTrue, IsSome, IfSome, IfOk, IfErr, length};
+ghost use Rattle.std.specs.Prelude.{◌≡◌, ◌↔◌, ◌<◌, ◌≤◌, ◌+◌, ◌*◌, true, false, [], IsTrue, IsSome};
+ghost use Rattle.std.specs.Prelude.{IfSome, IfOk, IfErr, length, take, slice_set};
 ghost use Rattle.sparse_rows.specs.Closure.{flagged};
-ghost use Rattle.peeling.specs.Decoder.{set_count, kept, HasAllSource, IsDecoder, IsEmpty};
+ghost use Rattle.sparse_rows.specs.Columns.{entries};
+ghost use Rattle.sparse_rows.specs.Matrix.{IsCode};
+ghost use Rattle.peeling.specs.Decoder.{set_count, kept, known_entries, HasAllSource, IsDecoder};
+ghost use Rattle.peeling.specs.Decoder.{IsEmpty};
 ghost use Rattle.peeling.specs.Stands.{StandsFor, Receives};
 ghost use Rattle.peeling.specs.Outcome.{IsOutcome};
 ghost use Rattle.peeling.specs.Blank.{IsBlank};
 
-use crate::rounds::{list_fresh, peel, rows_hold};
-use crate::symbols::{is_same, put_symbol, symbol_at};
+use crate::unknowns::{Unknowns, all_unknown};
+use crate::worklist::peel;
 use fec_base::{Ledger, NoMemory, Steps};
 use sparse_rows::Code;
 use std::alloc::Global;
 use std::marker::Model;
+use symbol_arena::Arena;
 
 /// What an arrival was to the decoder.
 #[derive(Clone, Copy, PartialEq, Eq, Debug)]
@@ -30,31 +35,38 @@ pub enum Arrival {
 struct Store {
     arrived: Vec<bool>,
     known: Vec<bool>,
-    // The symbols one after the other. One that is not known is zero.
-    symbols: Vec<u8>,
+    // The symbol of each position, zero where it is not known, and behind them for each row the sum
+    // of its known symbols.
+    symbols: Arena,
+    // Of each row what is unknown.
+    rows: Vec<Unknowns>,
     fresh: Vec<u32>,
-    // Room for one arrival: what was known once it came, and the sum of a row.
-    before: Vec<bool>,
-    sum: Vec<u8>,
 }
 
 /// A peeling decoder of one source block of a sparse erasure code. It takes encoding symbols one by
-/// one, in any order, repeated or not and whatever their bytes, and rebuilds each symbol that is the
-/// only unknown one of some row of the parity check matrix.
+/// one, in any order, repeated or not and whatever their bytes, and rebuilds each symbol that is
+/// the only unknown one of some row of the parity check matrix.
 ///
-/// The essence in four steps. A row whose symbols are all known but one gives that one, as the sum of
-/// the others. Repeated until no row gives anything, this makes known exactly the peeling closure of
-/// the positions that arrived. Each step is forced, so a rebuilt symbol is that of every codeword
-/// that fits the arrivals. What is left is a stopping set: no row has just one of its symbols, and
-/// more can follow by elimination alone.
+/// The essence in four steps. A row whose symbols are all known but one gives that one, as the sum
+/// of the others. Repeated until no row gives anything, this makes known exactly the peeling
+/// closure of the positions that arrived. Each step is forced, so a rebuilt symbol is that of every
+/// codeword that fits the arrivals. What is left is a stopping set: no row has just one of its
+/// symbols, and more can follow by elimination alone.
 ///
-/// This decoder goes over the rows in passes: for an arrival one, one more for each pass that rebuilt
-/// something, and one to test the rows, each over the entries of the whole matrix.
+/// This decoder keeps of each row how many of its columns are unknown, the XOR of their numbers,
+/// and the sum of the known symbols. A column that becomes known is worked off once: each of its
+/// rows is read, and gains its symbol. So all arrivals together take two steps for each entry of
+/// the matrix, whatever their order, and one arrival two for each entry of the columns that it
+/// makes known. Beside the code it holds n + (n - k) symbols in one block of memory, eight bytes
+/// for each row and six for each position.
 #[derive(Drop)]
 pub struct Peeler {
     code: Code,
     len: u32,
     clashed: bool,
+    // How many flags of each kind are set.
+    arrived_count: u32,
+    known_count: u32,
     store: Store,
 }
 
@@ -71,8 +83,8 @@ impl Model for Peeler {
 }
 
 impl Peeler {
-    /// A decoder for this code and symbols of `len` bytes, at which nothing has arrived. It takes all
-    /// its memory here. `NoMemory` hands back the code.
+    /// A decoder for this code and symbols of `len` bytes, at which nothing has arrived. It takes
+    /// all its memory here. `NoMemory` hands back the code.
     pub fn new(alloc: Global, code: Code, len: u32) -> Result<Peeler, (Code, NoMemory)>
         requires some { 1 ≤ len }
         requires most { len ≤ 65535 }
@@ -80,11 +92,13 @@ impl Peeler {
         ensures stands { IfOk result (λ peeler. StandsFor peeler []) }
         ensures err { IfErr result (λ refused. refused.0 ≡ code) }
     {
-        match empty_store(alloc, code.n() as usize, len as usize) {
+        match empty_store(alloc, &code, len) {
             Ok(store) => Ok(Peeler {
                 code,
                 len,
                 clashed: false,
+                arrived_count: 0,
+                known_count: 0,
                 store,
             }),
             Err(refused) => Err((code, refused)),
@@ -100,6 +114,8 @@ impl Peeler {
         ensures outcome { IsOutcome result self.old e bytes.now }
         ensures received { Receives self.old self.new e bytes.now }
         ensures steps { steps.old ≤ steps.new }
+        ensures bound { steps.new + 2 * known_entries self.old
+            ≤ steps.old + 2 * known_entries self.new }
     {
         if self.store.known[e as usize] {
             let same = self.take_repeat(e, bytes);
@@ -125,7 +141,7 @@ impl Peeler {
         ensures value { IfSome result (λ bytes. bytes.now ≡ kept self.now e) }
     {
         if self.store.known[e as usize] {
-            Some(symbol_at(&self.store.symbols, self.len as usize, e as usize))
+            Some(self.store.symbols.get(e))
         } else {
             None
         }
@@ -143,22 +159,22 @@ impl Peeler {
     pub fn known_count(&self) -> u32
         ensures { result ≡ set_count self.now.known }
     {
-        count_set(&self.store.known)
+        self.known_count
     }
 
     /// How many different positions arrived.
     pub fn arrived_count(&self) -> u32
         ensures { result ≡ set_count self.now.arrived }
     {
-        count_set(&self.store.arrived)
+        self.arrived_count
     }
 
     /// Whether each source symbol is known.
     pub fn has_all_source(&self) -> bool
         ensures { IsTrue result ↔ HasAllSource self.now }
     {
-        let k = self.code.k() as usize;
-        self.store.known[..k].iter().all(|flag| *flag)
+        // Where all source symbols are known, all symbols are.
+        self.known_count == self.code.n()
     }
 
     /// The code.
@@ -176,9 +192,9 @@ impl Peeler {
         self.len
     }
 
-    /// Whether the arrivals contradict one another: no symbols for the known positions agree with every
-    /// arrival and make each row of known symbols sum to zero. From then on the bytes of newly rebuilt
-    /// symbols mean nothing, while which positions are known stays exact.
+    /// Whether the arrivals contradict one another: no symbols for the known positions agree with
+    /// every arrival and make each row of known symbols sum to zero. From then on the bytes of
+    /// newly rebuilt symbols mean nothing, while which positions are known stays exact.
     pub fn clashed(&self) -> bool
         ensures { result ≡ self.now.clashed }
     {
@@ -193,12 +209,11 @@ impl Peeler {
         ensures same { IsTrue result ↔ (bytes.now ≡ kept self.old e) }
         ensures received { Receives self.old self.new e bytes.now }
     {
+        let count = with_flag(&self.store.arrived, self.arrived_count, e);
+        self.arrived_count = count;
         self.store.arrived[e as usize] = true;
         self.store.fresh.clear();
-        let same = is_same(
-            bytes,
-            symbol_at(&self.store.symbols, self.len as usize, e as usize),
-        );
+        let same = is_same(bytes, self.store.symbols.get(e));
         self.clashed |= !same;
         same
     }
@@ -210,45 +225,62 @@ impl Peeler {
         requires unknown { flagged self.old.known e ≡ false }
         ensures received { Receives self.old self.new e bytes.now }
         ensures steps { steps.old ≤ steps.new }
+        ensures cost { steps.new + 2 * entries self.old.matrix (flagged self.old.known)
+            ≡ steps.old + 2 * entries self.old.matrix (flagged self.new.known) }
     {
-        let code = &self.code;
-        let len = self.len as usize;
+        let count = with_flag(&self.store.arrived, self.arrived_count, e);
+        self.arrived_count = count;
         let store = &mut self.store;
-        let known = store.known.as_mut_slice();
-        let symbols = store.symbols.as_mut_slice();
-        let sum = store.sum.as_mut_slice();
-
         store.arrived[e as usize] = true;
-        known[e as usize] = true;
-        put_symbol(symbols, len, e as usize, bytes);
-        store.before.copy_from_slice(known);
-        peel(code, len, known, symbols, sum, steps);
-        list_fresh(&store.before, known, &mut store.fresh);
-        let holds = rows_hold(code, len, known, symbols, sum, steps);
+        let known = store.known.as_mut_slice();
+        let rows = store.rows.as_mut_slice();
+        let holds = peel(
+            &self.code,
+            e,
+            bytes,
+            known,
+            &mut store.symbols,
+            rows,
+            &mut store.fresh,
+            steps,
+        );
+        let more = 1 + store.fresh.len() as u32;
+        self.known_count += more;
         self.clashed |= !holds;
     }
 }
 
-// How many flags are set.
-fn count_set(flags: &[bool]) -> u32
-    requires { length flags.now ≤ 65536 }
-    ensures { result ≡ set_count flags.now }
+// How many flags are set once that of e is, where `count` are now.
+fn with_flag(flags: &[bool], count: u32, e: u32) -> u32
+    requires place { e < length flags.now }
+    requires few { length flags.now ≤ 65536 }
+    requires count { count ≡ set_count flags.now }
+    ensures { result ≡ set_count (slice_set flags.now e true) }
 {
-    flags.iter().filter(|flag| **flag).count() as u32
+    if flags[e as usize] { count } else { count + 1 }
 }
 
-// No flag is set, and each symbol is zero.
-fn empty_store(alloc: Global, n: usize, len: usize) -> Result<Store, NoMemory>
-    requires n { n ≤ 65536 }
-    requires len { len ≤ 65535 }
-    ensures { IfOk result (λ store. IsBlank n len store) }
+// Whether the bytes are the same.
+fn is_same(a: &[u8], b: &[u8]) -> bool
+    ensures { IsTrue result ↔ (a.now ≡ b.now) }
 {
+    a == b
+}
+
+// No flag is set, each symbol and each sum is zero, and each column is unknown to its rows.
+fn empty_store(alloc: Global, code: &Code, len: u32) -> Result<Store, NoMemory>
+    requires some { 1 ≤ len }
+    requires most { len ≤ 65535 }
+    ensures blank { IfOk result (λ store. IsBlank code.now len store) }
+    ensures code { IsCode code.now }
+{
+    let n = code.n();
+    let rows = n - code.k();
     Ok(Store {
-        arrived: vec![in alloc; false; n]?,
-        known: vec![in alloc; false; n]?,
-        symbols: vec![in alloc; 0; n * len]?,
-        fresh: Vec::with_capacity(alloc, n)?,
-        before: vec![in alloc; false; n]?,
-        sum: vec![in alloc; 0; len]?,
+        arrived: vec![in alloc; false; n as usize]?,
+        known: vec![in alloc; false; n as usize]?,
+        symbols: Arena::new(alloc, n + rows, len)?,
+        rows: all_unknown(alloc, code)?,
+        fresh: Vec::with_capacity(alloc, n as usize)?,
     })
 }

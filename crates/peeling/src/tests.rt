@@ -1,4 +1,4 @@
-ghost use Rattle.std.specs.Prelude.{◌≡◌, ◌<◌, ◌≤◌, ◌-◌, OnOk, IfOk};
+ghost use Rattle.std.specs.Prelude.{◌≡◌, ◌<◌, ◌≤◌, ◌-◌, OnOk, IfOk, length};
 ghost use Rattle.sparse_rows.specs.Matrix.{with_entry};
 
 use crate::{Arrival, Peeler};
@@ -8,8 +8,8 @@ use std::alloc::Global;
 use std::process::Abort;
 use std::test::Fail;
 
-// Three source and four repair symbols of one byte. The rows are 0 1 3, 1 3 4, 2 4 5 and 0 2 6, here
-// as sets of bits, and the word is the codeword of the source 01 02 04.
+// Three source and four repair symbols of one byte. The rows are 0 1 3, 1 3 4, 2 4 5 and 0 2 6,
+// here as sets of bits, and the word is the codeword of the source 01 02 04.
 const ROWS: [u32; 4] = [0b0001011, 0b0011010, 0b0110100, 0b1000101];
 
 const WORD: [u8; 7] = [1, 2, 4, 3, 1, 5, 5];
@@ -19,7 +19,8 @@ fn put_row(b: &mut RowsBuilder, r: u32, first: u32, second: u32, third: u32) -> 
     requires first { first < b.old.n }
     requires second { second < b.old.n }
     requires third { third < b.old.n }
-    ensures { OnOk result (b.new ≡ with_entry (with_entry (with_entry b.old r first) r second) r third) }
+    ensures { OnOk result (b.new
+        ≡ with_entry (with_entry (with_entry b.old r first) r second) r third) }
 {
     b.insert(r, first)?;
     b.insert(r, second)?;
@@ -38,14 +39,33 @@ fn small_code(alloc: Global) -> Result<Code, NoMemory>
     Code::from_builder(alloc, b)
 }
 
+fn decoder_of(alloc: Global, len: u32) -> Result<Peeler, NoMemory>
+    requires some { 1 ≤ len }
+    requires most { len ≤ 65535 }
+    ensures n { IfOk result (λ d. d.matrix.n ≡ 7) }
+    ensures len { IfOk result (λ d. d.len ≡ len) }
+{
+    match Peeler::new(alloc, small_code(alloc)?, len) {
+        Ok(d) => Ok(d),
+        Err((_code, refused)) => Err(refused),
+    }
+}
+
 fn decoder(alloc: Global) -> Result<Peeler, NoMemory>
     ensures n { IfOk result (λ d. d.matrix.n ≡ 7) }
     ensures len { IfOk result (λ d. d.len ≡ 1) }
 {
-    match Peeler::new(alloc, small_code(alloc)?, 1) {
-        Ok(d) => Ok(d),
-        Err((_code, refused)) => Err(refused),
-    }
+    decoder_of(alloc, 1)
+}
+
+fn take_bytes(d: &mut Peeler, e: u32, bytes: &[u8]) -> Arrival
+    requires position { e < d.old.matrix.n }
+    requires len { length bytes.now ≡ d.old.len }
+    ensures code { d.new.matrix ≡ d.old.matrix }
+    ensures len { d.new.len ≡ d.old.len }
+{
+    let mut steps = Steps::<Tally>::start();
+    d.arrive(e, bytes, &mut steps)
 }
 
 fn take(d: &mut Peeler, e: u32, byte: u8) -> Arrival
@@ -54,8 +74,7 @@ fn take(d: &mut Peeler, e: u32, byte: u8) -> Arrival
     ensures code { d.new.matrix ≡ d.old.matrix }
     ensures len { d.new.len ≡ d.old.len }
 {
-    let mut steps = Steps::<Tally>::start();
-    d.arrive(e, &[byte], &mut steps)
+    take_bytes(d, e, &[byte])
 }
 
 // The closure, by its definition: seven rounds over all rows at once.
@@ -153,6 +172,23 @@ fn a_repeat_says_whether_its_bytes_are_kept(rt: HostRuntime) -> Result<(), Fail>
     Ok(())
 }
 
+// Columns 0 and 1 give 3, and 1 and 3 give 4. What was rebuilt arrives then.
+#[test]
+fn what_was_rebuilt_arrives_as_a_repeat(rt: HostRuntime) -> Result<(), Fail> {
+    let mut d = decoder(rt.alloc())?;
+    let _ = take(&mut d, 0, 1);
+    let _ = take(&mut d, 1, 2);
+    assert!(rt; d.fresh() == [3, 4].as_slice());
+    assert!(rt; d.arrived_count() == 2);
+    assert!(rt; take(&mut d, 4, 1) == Arrival::Repeat { same: true });
+    assert!(rt; d.fresh().is_empty());
+    assert!(rt; d.arrived_count() == 3);
+    assert!(rt; d.known_count() == 4);
+    assert!(rt; !d.has_all_source());
+    assert!(rt; !d.clashed());
+    Ok(())
+}
+
 #[test]
 fn a_row_that_does_not_sum_to_zero_is_a_contradiction(rt: HostRuntime) -> Result<(), Fail> {
     let mut d = decoder(rt.alloc())?;
@@ -161,5 +197,29 @@ fn a_row_that_does_not_sum_to_zero_is_a_contradiction(rt: HostRuntime) -> Result
     assert!(rt; !d.clashed());
     assert!(rt; take(&mut d, 1, 2) == Arrival::Fresh);
     assert!(rt; d.clashed());
+    assert!(rt; take(&mut d, 2, 4) == Arrival::Fresh);
+    assert!(rt; d.clashed());
+    Ok(())
+}
+
+// Row 0 gives symbol 3 as the sum of symbols 0 and 1, each byte of it.
+fn check_sum(rt: &impl Abort, alloc: Global, len: u32) -> Result<(), NoMemory>
+    requires some { 1 ≤ len }
+    requires most { len ≤ 65535 }
+{
+    let halves = vec![in alloc; 0x0fu8; len as usize]?;
+    let ones = vec![in alloc; 0xffu8; len as usize]?;
+    let sum = vec![in alloc; 0xf0u8; len as usize]?;
+    let mut d = decoder_of(alloc, len)?;
+    let _ = take_bytes(&mut d, 0, &halves);
+    let _ = take_bytes(&mut d, 1, &ones);
+    assert!(rt; d.symbol(3) == Some(sum.as_slice()), "length {len}");
+    Ok(())
+}
+
+#[test]
+fn each_byte_of_a_symbol_is_rebuilt(rt: HostRuntime) -> Result<(), Fail> {
+    check_sum(&rt, rt.alloc(), 16)?;
+    check_sum(&rt, rt.alloc(), 33)?;
     Ok(())
 }
