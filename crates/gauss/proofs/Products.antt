@@ -4,10 +4,10 @@ use Rattle.std.specs.List.{range_with_len}
 use Rattle.std.proofs.Math.Bool.{xor as bool_xor}
 use Rattle.std.proofs.lemmas.Bool.{cases_lt, false_from_ne_true, ne_eqb, not-true}
 use Rattle.sparse_rows.specs.Closure.{Set, members}
-use Rattle.sparse_rows.specs.NullWord.{is_in}
+use Rattle.sparse_rows.specs.Matrix.{is_in}
 use Rattle.sparse_rows.proofs.Algebra.{XorLaws, total, total_same, total_add, total_split, total_agree, total_zero, right, cancel}
 use Rattle.sparse_rows.proofs.Sets.{same_test}
-use Rattle.null_witness.proofs.Increasing.{rising_same}
+use Rattle.sparse_rows.proofs.Increasing.{rising_same}
 use Rattle.gauss.specs.Elimination.{product, Solves}
 use Rattle.sparse_rows.proofs.Null.{members_rise, members_same, members_below, in_all, range_below}
 
@@ -88,13 +88,6 @@ module _ {G : Type 0} (o : G) (add : G → G → G) (laws : XorLaws G o add) whe
 
       at_each : (c : ℕ) → c < u → cond (a c) (x c) o ≡ o
       at_each c lt = ⊎_elim (λ e. ap (λ b. cond b (x c) o) e) (λ e. at_zero (a c) (x c) e) (h c lt)
-
-  pub product_add : (u : ℕ) (a : Set) (x y : ℕ → G) → product o add u a (λ c. add (x c) (y c)) ≡ add (product o add u a x) (product o add u a y)
-  product_add u a x y = total_same o add laws _ _ (range_with_len 0 u) (λ k d lt. by_case (a _) (x _) (y _)) ∙ total_add o add laws (λ c. cond (a c) (x c) o) (λ c. cond (a c) (y c) o) (range_with_len 0 u)
-    where
-      by_case : (b : Bool) (v w : G) → cond b (add v w) o ≡ add (cond b v o) (cond b w o)
-      by_case true v w = refl
-      by_case false v w = sym (laws.left o)
 
   -- ---- row operations
 

@@ -3,11 +3,13 @@ use Rattle.std.proofs.Common.{◌≡◌, ◌≢◌, ℕ, ◌<◌, ◌≤◌, Boo
 use Rattle.std.proofs.Math.Bool.{xor as bool_xor}
 use Rattle.std.proofs.lemmas.List.{ext_get_or, get_or-map, length-map}
 use Rattle.std.proofs.lemmas.List.Elements.{All-from_get_or}
-use Rattle.sparse_rows.specs.Symbol.{IsSymbol, xor, zero_symbol, xor_sum}
+use Rattle.fec_base.specs.Symbol.{IsSymbol, xor, zero_symbol, xor_sum}
 use Rattle.sparse_rows.specs.Codeword.{IsAssignment, symbol_at}
-use Rattle.sparse_rows.specs.NullWord.{IsNullWord, is_in}
+use Rattle.sparse_rows.specs.Matrix.{is_in}
+use Rattle.sparse_rows.specs.NullWord.{IsNullWord}
 use Rattle.sparse_rows.proofs.Algebra.{total, total_add, total_same, cancel}
-use Rattle.sparse_rows.proofs.Planes.{byte, byte_laws, byte_sum, byte_xor, same_bytes, length_sum, xor_is_symbol}
+use Rattle.fec_base.proofs.SymbolBytes.{byte, byte_xor, same_bytes}
+use Rattle.sparse_rows.proofs.Planes.{byte_laws, byte_sum, length_sum, xor_is_symbol}
 use Rattle.sparse_rows.proofs.Parity.{even_to}
 use Rattle.sparse_rows.proofs.Null.{null_column}
 use Rattle.null_witness.proofs.First.{first_is_one}

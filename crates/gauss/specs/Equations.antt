@@ -1,7 +1,7 @@
 -- Systems of linear equations whose unknowns are symbols.
 use Rattle.std.specs.Prelude.{◌≡◌, ◌<◌, ℕ, List, [], ◌∷◌, ◌++◌, map, slice_index_or, slice_set, All}
 use Rattle.std.specs.List.Sorted.{IsStrictlyIncreasing}
-use Rattle.sparse_rows.specs.Symbol.{IsSymbol, xor_sum, zero_symbol}
+use Rattle.fec_base.specs.Symbol.{IsSymbol, xor_sum, zero_symbol}
 use Rattle.sparse_rows.specs.Matrix.{Matrix}
 use Rattle.sparse_rows.specs.Codeword.{IsAssignment}
 
@@ -34,7 +34,8 @@ with_sum bytes e = record { unknowns = e.unknowns; sum = bytes }
 
 -- the system with another equation in place of equation r
 abbrev pub with_equation : System → ℕ → Equation → System
-with_equation s r e = record { unknowns = s.unknowns; len = s.len; equations = slice_set s.equations r e }
+with_equation s r e =
+    record { unknowns = s.unknowns; len = s.len; equations = slice_set s.equations r e }
 
 -- the unknowns rise and are below u, and the sum is a symbol
 pub record IsEquation (u len : ℕ) (e : Equation) : Type 0 where
@@ -53,4 +54,5 @@ pub record IsSolution (s : System) (x : ℕ → List ℕ) : Type 0 where
 
 -- the unknowns as columns, and each equation's unknowns as a row
 abbrev pub matrix_of : System → Matrix
-matrix_of s = record { k = 0; n = s.unknowns; rows = map (λ (e : Equation). e.unknowns) s.equations }
+matrix_of s =
+    record { k = 0; n = s.unknowns; rows = map (λ (e : Equation). e.unknowns) s.equations }

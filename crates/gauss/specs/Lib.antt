@@ -1,7 +1,7 @@
 pub mod Equations
-pub mod Limits
 pub mod Answer
 pub mod Laws
-pub mod Rows
+pub mod Packed
 pub mod Elimination
-pub mod Clash
+pub mod Table
+pub mod Groups

@@ -1,9 +1,7 @@
 // What a system of equations determines.
-ghost use Rattle.std.specs.Prelude.{◌≡◌, ◌<◌, [], length, slice_index_or, map, IfOk};
+ghost use Rattle.std.specs.Prelude.{◌≡◌, ◌<◌, [], length, slice_index_or};
 
-use fec_base::NoMemory;
 use null_witness::NullWord;
-use std::alloc::Global;
 use std::marker::Model;
 
 /// What a system of equations determines.
@@ -13,33 +11,40 @@ pub enum Answer {
     Clash,
     /// One assignment does, and no other.
     One(Values),
-    /// Several do. This set of unknowns shows it: each equation has an even number of them, so any one
-    /// symbol may be added to all of them. Of such sets it is the one whose last unknown is least.
+    /// Several do. This set of unknowns shows it: each equation has an even number of them, so any
+    /// one symbol may be added to all of them. Of such sets it is the one whose last unknown is
+    /// least.
     Free(NullWord),
 }
 
-/// A symbol for each unknown.
+/// The only solution: a symbol for each unknown.
 #[derive(Drop)]
 pub struct Values {
-    pub(crate) symbols: Vec<Vec<u8>>,
+    pub(crate) count: u32,
+    pub(crate) len: u32,
+    pub(crate) bytes: Vec<u8>,
 }
 
 impl Model for Values {
     ghost use Rattle.std.specs.Prelude.{ℕ, List};
-    ghost use Rattle.gauss.specs.Rows.{bytes_of};
+    ghost use Rattle.gauss.specs.Packed.{AreSymbols};
+    ghost use Rattle.fec_base.specs.Symbol.{symbols_of};
 
     ghost Value = { List (List ℕ) };
 
-    ghost view = { λ v. bytes_of v.symbols.items };
+    ghost view = { λ v. symbols_of v.len v.count v.bytes.items };
+
+    ghost invariant = { λ v. AreSymbols v.len v.count v.bytes.items };
 }
 
 impl Values {
-    /// The symbol of unknown i, counted from 0.
+    /// The symbol of unknown i, counted from 0: as many bytes as a sum of the equations has.
     pub fn symbol(&self, i: u32) -> &[u8]
         requires { i < length self.now }
         ensures { result.now ≡ slice_index_or self.now i [] }
     {
-        let symbols = self.symbols.as_slice();
-        &symbols[i as usize]
+        let bytes = self.bytes.as_slice();
+        let start = i as usize * self.len as usize;
+        &bytes[start..start + self.len as usize]
     }
 }

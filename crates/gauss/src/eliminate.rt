@@ -1,90 +1,119 @@
-// Elimination, unknown by unknown.
-ghost use Rattle.std.specs.Prelude.{◌≡◌, ◌≤◌, ◌<◌, ℕ, All, false, length, vec_len, slice_index_or, IfOk, OnOk, MatchOption};
-ghost use Rattle.sparse_rows.specs.Closure.{flagged};
-ghost use Rattle.gauss.specs.Equations.{Equation, IsEquation, IsSystem, System};
-ghost use Rattle.gauss.specs.Rows.{AreAlike, HasNoPivot, IsAdded, IsLong, IsPivot, IsStep, mask_of};
-ghost use Rattle.gauss.specs.Elimination.{IsStage};
+// Elimination in place, eight unknowns at a time.
+ghost use Rattle.std.specs.Prelude.{◌≡◌, ◌≤◌, ◌<◌, ◌*◌, ◌+◌, ℕ, length, slice_index_or, IfOk};
+ghost use Rattle.gauss.specs.Packed.{bits_of, width_of};
+ghost use Rattle.gauss.specs.Elimination.{Advances, IsStageIn};
 
-use crate::row::Row;
+use crate::packed::{group_end, width_of};
+use crate::table::{apply, eliminate_unknown};
 use fec_base::NoMemory;
 use std::alloc::Global;
 
-// Brings the rows into reduced form: an unknown has a pivot row, and then no other row has it, or it is free.
-// Gives for each unknown its pivot row, or the number of rows where it is free.
+// For each unknown its pivot row, or the number of rows where it is free; and for each row the
+// unknown that it leads, or the number of unknowns where it leads none.
+#[derive(Drop)]
+pub(crate) struct Pivots {
+    pub(crate) rows: Vec<u32>,
+    pub(crate) leads: Vec<u32>,
+}
+
+// Brings rows of bits into echelon form, in place: what stands in a row before its own unknown is
+// no longer of the row, and tells which pivot rows went into it.
 //
-// The essence: for each unknown in rising order, the first row that has it and isn't a pivot row yet
-// becomes its pivot row, and is added to each other row that has it. Adding a row to another keeps the
-// solutions. Each addition goes over the unknowns of both rows.
+// For each unknown in rising order, the first row that has it and leads no unknown becomes its
+// pivot row. Its own bit goes, and it is added to each other row that has the unknown and leads
+// none. Bit i of these stays so, and says that the pivot row of i went into them. What is to be
+// added to a row for the eight unknowns of a group depends on its eight bits of the group alone, so
+// it is kept in a table for each of the 256 bytes, and is added to the rows once, at the end of the
+// group.
 pub(crate) fn eliminate(
     alloc: Global,
     unknowns: u32,
-    rows: &mut [Row],
-) -> Result<Vec<u32>, NoMemory>
-    requires few { length rows.old ≤ 65536 }
-    requires system { (len : ℕ) × All (IsEquation unknowns len) rows.old }
-    ensures counted { IfOk result (λ pivots. vec_len pivots ≡ unknowns) }
-    ensures stage { (s : System) → s.unknowns ≡ unknowns → s.equations ≡ rows.old → IsSystem s → IfOk result (λ pivots. IsStage s unknowns rows.new pivots.items) }
+    rows: u32,
+    words: &mut [u64],
+) -> Result<Pivots, NoMemory>
+    requires unknowns { unknowns ≤ 65536 }
+    requires rows { rows ≤ 65536 }
+    requires words { length words.old ≡ rows * width_of unknowns }
+    ensures { IfOk result (λ pivots. IsStageIn unknowns rows unknowns
+        (bits_of (width_of unknowns) words.old) (bits_of (width_of unknowns) words.new)
+        pivots.rows.items pivots.leads.items) }
 {
-    let mut used = vec![in alloc; false; rows.len()]?;
-    let mut pivots = Vec::with_capacity(alloc, unknowns as usize)?;
-    for unknown in 0..unknowns {
-        pivots.push(eliminate_unknown(alloc, unknown, rows, &mut used)?)?;
-    }
-    Ok(pivots)
+    let mut pivots = vec![in alloc; rows; unknowns as usize]?;
+    let mut leads = vec![in alloc; unknowns; rows as usize]?;
+    let mut table = vec![in alloc; 0u64; 256 * width_of(unknowns)]?;
+    eliminate_all(
+        words,
+        width_of(unknowns),
+        &mut pivots,
+        &mut leads,
+        &mut table,
+    );
+    Ok(Pivots {
+        rows: pivots,
+        leads,
+    })
 }
 
-// Finds the pivot row of an unknown, and adds it to the others that have the unknown. Gives it, or the
-// number of rows where the unknown is free.
-fn eliminate_unknown(
-    alloc: Global,
-    unknown: u32,
-    rows: &mut [Row],
-    used: &mut [bool],
-) -> Result<u32, NoMemory>
-    requires few { length rows.old ≤ 65536 }
-    requires alike { AreAlike rows.old }
-    requires used { length used.old ≡ length rows.old }
-    ensures { IfOk result (λ t. IsStep rows.old used.old unknown t rows.new used.new) }
+// The groups one after the other.
+fn eliminate_all(
+    words: &mut [u64],
+    width: usize,
+    pivots: &mut [u32],
+    leads: &mut [u32],
+    table: &mut [u64],
+)
+    requires width { width ≡ width_of (length pivots.old) }
+    requires pivots { length pivots.old ≤ 65536 }
+    requires leads { length leads.old ≤ 65536 }
+    requires words { length words.old ≡ length leads.old * width }
+    requires table { length table.old ≡ 256 * width }
+    ensures { Advances (length pivots.old) (length leads.old) 0 (length pivots.old)
+        (bits_of width words.old) (bits_of width words.new)
+        pivots.old leads.old pivots.new leads.new }
 {
-    let Some(pivot) = find_pivot(rows, used, unknown) else {
-        return Ok(rows.len() as u32);
-    };
-    used[pivot] = true;
-    let row = rows[pivot].copy(alloc)?;
-    add_to_others(alloc, rows, pivot, &row, unknown)?;
-    Ok(pivot as u32)
+    let mut start = 0;
+    while start < pivots.len() {
+        let end = group_end(start, pivots.len());
+        eliminate_group(words, width, start, end, pivots, leads, table);
+        start = end;
+    }
 }
 
-// The first row that isn't used and has the unknown.
-fn find_pivot(rows: &[Row], used: &[bool], unknown: u32) -> Option<usize>
-    requires { length used.now ≡ length rows.now }
-    ensures { MatchOption result (HasNoPivot rows.now used.now unknown) (IsPivot rows.now used.now unknown) }
+// The unknowns of one group: each is eliminated in the table, and then the table is added to the
+// rows.
+fn eliminate_group(
+    words: &mut [u64],
+    width: usize,
+    start: usize,
+    end: usize,
+    pivots: &mut [u32],
+    leads: &mut [u32],
+    table: &mut [u64],
+)
+    requires width { width ≡ width_of (length pivots.old) }
+    requires pivots { length pivots.old ≤ 65536 }
+    requires leads { length leads.old ≤ 65536 }
+    requires words { length words.old ≡ length leads.old * width }
+    requires table { length table.old ≡ 256 * width }
+    requires start { (g : ℕ) × (start ≡ 8 * g) }
+    requires few { end ≤ start + 8 }
+    requires some { start < end }
+    requires end { end ≤ length pivots.old }
+    ensures { Advances (length pivots.old) (length leads.old) start end
+        (bits_of width words.old) (bits_of width words.new)
+        pivots.old leads.old pivots.new leads.new }
 {
-    for r in 0..rows.len() {
-        if !used[r] && rows[r].has(unknown) {
-            return Some(r);
-        }
+    let group = start / 8;
+    clear(table);
+    for unknown in start..end {
+        eliminate_unknown(words, width, group, unknown, pivots, leads, table);
     }
-    None
+    apply(words, width, group, pivots.len(), leads, table);
 }
 
-// Adds a copy of the pivot row to each other row that has the unknown.
-fn add_to_others(
-    alloc: Global,
-    rows: &mut [Row],
-    pivot: usize,
-    row: &Row,
-    unknown: u32,
-) -> Result<(), NoMemory>
-    requires pivot { pivot < length rows.old }
-    requires copy { (d : Equation) → row.now ≡ slice_index_or rows.old pivot d }
-    requires long { All (IsLong (length row.now.sum)) rows.old }
-    ensures { OnOk result (IsAdded rows.old pivot unknown rows.new) }
+// Makes all words zero.
+fn clear(table: &mut [u64])
+    ensures { (k : ℕ) → slice_index_or table.new k 0 ≡ 0 }
 {
-    for r in 0..rows.len() {
-        if r != pivot && rows[r].has(unknown) {
-            rows[r].add(alloc, row)?;
-        }
-    }
-    Ok(())
+    table.fill(0);
 }

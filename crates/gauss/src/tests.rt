@@ -1,7 +1,7 @@
-ghost use Rattle.std.specs.Prelude.{◌≡◌, ◌≢◌, ◌≤◌, ◌<◌, ◌+◌, ℕ, [], length, IfOk, OnOk};
+ghost use Rattle.std.specs.Prelude.{◌≡◌, ◌≢◌, ◌≤◌, ◌<◌, ◌+◌, ℕ, [], length, IfOk};
 ghost use Rattle.gauss.specs.Equations.{equation_at};
 
-use crate::{Answer, Equations, solve};
+use crate::{Answer, Equations, Values, solve};
 use fec_base::NoMemory;
 use std::alloc::Global;
 use std::process::Abort;
@@ -12,25 +12,24 @@ fn byte_of(number: u32) -> u8 {
 }
 
 // Makes equation r, which has no unknown, that of the unknowns from `first` to before `end`.
-fn put_equation(eqs: &mut Equations, r: u32, first: u32, end: u32, sum: u8) -> Result<(), NoMemory>
+fn put_equation(eqs: &mut Equations, r: u32, first: u32, end: u32, sum: &[u8])
     requires equation { r < length eqs.old.equations }
     requires end { end ≤ eqs.old.unknowns }
     requires empty { (equation_at eqs.old r).unknowns ≡ [] }
-    requires len { eqs.old.len ≡ 1 }
-    ensures unknowns { OnOk result (eqs.new.unknowns ≡ eqs.old.unknowns) }
-    ensures len { OnOk result (eqs.new.len ≡ 1) }
-    ensures count { OnOk result (length eqs.new.equations ≡ length eqs.old.equations) }
-    ensures others { (j : ℕ) → j ≢ r → OnOk result (equation_at eqs.new j ≡ equation_at eqs.old j) }
+    requires len { length sum.now ≡ eqs.old.len }
+    ensures unknowns { eqs.new.unknowns ≡ eqs.old.unknowns }
+    ensures len { eqs.new.len ≡ eqs.old.len }
+    ensures count { length eqs.new.equations ≡ length eqs.old.equations }
+    ensures others { (j : ℕ) → j ≢ r → equation_at eqs.new j ≡ equation_at eqs.old j }
 {
     for unknown in first..end {
-        eqs.add_column(r, unknown)?;
+        eqs.add_column(r, unknown);
     }
-    eqs.set_sum(r, &[sum]);
-    Ok(())
+    eqs.set_sum(r, sum);
 }
 
-// So many equations in u unknowns of one byte. Of the first `rows` of them, number i is of the unknowns
-// from i to before i + width, with the sum i where the width is 1, and else zero.
+// So many equations in u unknowns of one byte. Of the first `rows` of them, number i is of the
+// unknowns from i to before i + width, with the sum i where the width is 1, and else zero.
 fn band(
     alloc: Global,
     unknowns: u32,
@@ -50,9 +49,16 @@ fn band(
     let mut eqs = Equations::new(alloc, unknowns, equations, 1)?;
     for i in 0..rows {
         let sum = if width == 1 { byte_of(i) } else { 0 };
-        put_equation(&mut eqs, i, i, i + width, sum)?;
+        put_equation(&mut eqs, i, i, i + width, &[sum]);
     }
     Ok(eqs)
+}
+
+// How many symbols there are.
+fn count_of(values: &Values) -> u32
+    ensures { result ≡ length values.now }
+{
+    values.count
 }
 
 // Whether unknown i is i, for all of them.
@@ -60,7 +66,7 @@ fn is_counted(answer: &Answer, unknowns: u32) -> bool {
     let Answer::One(values) = answer else {
         return false;
     };
-    if values.symbols.len() != unknowns as usize {
+    if count_of(values) != unknowns {
         return false;
     }
     for i in 0..unknowns {
@@ -120,16 +126,74 @@ fn sum_below(u: u32) -> u8 {
 }
 
 #[test]
-fn an_equation_too_many_agrees_or_clashes(rt: HostRuntime) -> Result<(), Fail> {
+fn an_equation_too_many_agrees(rt: HostRuntime) -> Result<(), Fail> {
     for u in SIZES {
         let mut eqs = band(rt.alloc(), u, u + 1, u, 1)?;
-        put_equation(&mut eqs, u, 0, u, sum_below(u))?;
+        put_equation(&mut eqs, u, 0, u, &[sum_below(u)]);
         let answer = solve(rt.alloc(), eqs)?;
         assert!(rt; is_counted(&answer, u));
-        let mut eqs = band(rt.alloc(), u, u + 1, u, 1)?;
-        put_equation(&mut eqs, u, 0, 1, 1)?;
-        let answer = solve(rt.alloc(), eqs)?;
+    }
+    Ok(())
+}
+
+// An equation for each unknown, and another sum for unknown 0.
+fn contradiction(alloc: Global, u: u32) -> Result<Equations, NoMemory>
+    requires some { 1 ≤ u }
+    requires few { u ≤ 65535 }
+{
+    let mut eqs = band(alloc, u, u + 1, u, 1)?;
+    put_equation(&mut eqs, u, 0, 1, &[1]);
+    Ok(eqs)
+}
+
+#[test]
+fn an_equation_too_many_clashes(rt: HostRuntime) -> Result<(), Fail> {
+    for u in SIZES {
+        let answer = solve(rt.alloc(), contradiction(rt.alloc(), u)?)?;
         assert!(rt; matches!(answer, Answer::Clash));
+    }
+    Ok(())
+}
+
+// Unknown 0 is 7 in each byte, and the sum of both unknowns is 1.
+fn pair(alloc: Global, len: u32) -> Result<Equations, NoMemory>
+    requires some { 1 ≤ len }
+    requires most { len ≤ 65535 }
+{
+    let mut eqs = Equations::new(alloc, 2, 2, len)?;
+    let sum = vec![in alloc; 7u8; len as usize]?;
+    put_equation(&mut eqs, 0, 0, 1, &sum);
+    let sum = vec![in alloc; 1u8; len as usize]?;
+    put_equation(&mut eqs, 1, 0, 2, &sum);
+    Ok(eqs)
+}
+
+// Whether the symbol is so many of this byte.
+fn is_filled(symbol: &[u8], byte: u8, len: u32) -> bool {
+    for b in symbol {
+        if *b != byte {
+            return false;
+        }
+    }
+    symbol.len() == len as usize
+}
+
+// Whether unknown 0 is 7 in each byte, and unknown 1 is 6.
+fn is_pair(answer: &Answer, len: u32) -> bool {
+    let Answer::One(values) = answer else {
+        return false;
+    };
+    if count_of(values) != 2 {
+        return false;
+    }
+    is_filled(values.symbol(0), 7, len) && is_filled(values.symbol(1), 6, len)
+}
+
+#[test]
+fn symbols_longer_than_a_tile_are_solved(rt: HostRuntime) -> Result<(), Fail> {
+    for len in [1, 511, 512, 513, 1_030] {
+        let answer = solve(rt.alloc(), pair(rt.alloc(), len)?)?;
+        assert!(rt; is_pair(&answer, len));
     }
     Ok(())
 }
