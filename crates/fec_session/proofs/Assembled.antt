@@ -2,7 +2,7 @@
 use Rattle.std.proofs.Common.{◌≡◌, ℕ, ◌<◌, List, [], ◌∷◌, ◌++◌, length, All, ap, ◌∙◌}
 use Rattle.std.proofs.lemmas.List.{set-set, get_or-set_same}
 use Rattle.gauss.specs.Equations.{Equation, System, equation_at, no_equation, with_equation, with_unknown}
-use Rattle.fec_session.specs.Residue.{with_unknowns}
+use Rattle.fec_session.specs.Residual.{with_unknowns}
 
 -- of two equations put in one place the later stays
 pub put_twice : (s : System) (r : ℕ) (e f : Equation) → with_equation (with_equation s r e) r f ≡ with_equation s r f

@@ -1,92 +1,116 @@
--- Repair symbols filled in behind the source symbols, one for each row.
-use Rattle.std.proofs.Common.{◌≡◌, ℕ, suc, ◌+◌, ◌-◌, ◌*◌, ◌<◌, ◌≤◌, List, [], ◌∷◌, ◌++◌, length, take, drop, replicate, All, refl, sym, ap, ap₂, ◌∙◌, subst, arith, add-one, length-append, length-drop, length-take-le, drop-drop, suc-mul}
-use Rattle.std.proofs.Math.Nat.{mul-le-mul_right}
-use Rattle.std.proofs.Math.Seq.{take-suc, take-length, take_at, drop_at}
-use Rattle.std.proofs.lemmas.List.{length-replicate, take-replicate, drop-replicate}
-use Rattle.sparse_rows.specs.Symbol.{zero_symbol, xor_sum, symbols_of}
+-- Symbols filled in one after the other: the source symbols, and a repair symbol for each row.
+use Rattle.std.proofs.Common.{◌≡◌, ℕ, zero, suc, ◌+◌, ◌-◌, ◌*◌, ◌<◌, ◌≤◌, List, [], ◌∷◌, ◌++◌, length, get_or, set, take, drop, replicate, All, refl, sym, ap, ap₂, ◌∙◌, subst, arith, add-one, append-nil, append_assoc, length-append, length-drop, length-take-le}
+use Rattle.std.proofs.Math.Path.{fun_ext}
+use Rattle.std.proofs.Math.Seq.{take-suc, take-length, drop-cons, get_or-append_seam, set-append_seam}
+use Rattle.std.proofs.lemmas.List.{length-replicate, drop-replicate}
+use Rattle.std.proofs.lemmas.List.Elements.{All-append, All-replicate}
+use Rattle.fec_base.specs.Symbol.{IsSymbol, zero_symbol, xor_sum, symbols_of}
 use Rattle.sparse_rows.specs.Matrix.{Matrix, IsCode, row_of}
 use Rattle.sparse_rows.specs.Codeword.{symbol_at, IsEncoded}
-use Rattle.sparse_rows.proofs.Encode.{extend, source_has}
-use Rattle.sparse_rows.proofs.Symbols.{length_symbols, symbols_more, symbols_of_front, symbols_are, piece}
+use Rattle.sparse_rows.proofs.Encode.{extend, extend_is, extend_symbols, source_has}
+use Rattle.sparse_rows.proofs.Planes.{zero_is_symbol}
+use Rattle.sparse_rows.proofs.Symbols.{length_symbols, symbols_more, symbol_room, piece}
+
+-- ---- the source
+
+-- source symbols in front don't change how many symbols there are
+pub source_count : (len k : ℕ) (source : List ℕ) (start : List (List ℕ)) → k ≤ length start → (e : ℕ) → e < k → length (symbols_of len e source ++ drop e start) ≡ length start
+source_count len k source start count e lt = length-append (symbols_of len e source) (drop e start) ∙ omega (arith, length_symbols len e source, length-drop e start)
+
+module _ (len k : ℕ) (source : List ℕ) (start : List (List ℕ)) (long : length source ≡ k * len) (count : k ≤ length start) (e : ℕ) (lt : e < k) where
+  abbrev front : List (List ℕ)
+  front = symbols_of len e source
+
+  parts : front ++ drop e start ≡ front ++ get_or start e [] ∷ drop (suc e) start
+  parts = ap (λ (ys : List (List ℕ)). front ++ ys) (drop-cons start e [] (omega arith))
+
+  -- the place of the next source symbol is as it was
+  pub source_place : get_or (front ++ drop e start) e [] ≡ get_or start e []
+  source_place =
+      ap (λ (w : List (List ℕ)). get_or w e []) parts ∙ ap (λ (i : ℕ). get_or (front ++ get_or start e [] ∷ drop (suc e) start) i []) (sym (length_symbols len e source))
+      ∙ get_or-append_seam front (get_or start e []) (drop (suc e) start) []
+
+  -- the next source symbol has its length
+  pub source_long : length (piece len source e) ≡ len
+  source_long = length-take-le len (drop (e * len) source) (omega (arith, length-drop (e * len) source, symbol_room len k e lt))
+
+  -- one source symbol more
+  pub source_next : set (front ++ drop e start) e (piece len source e) ≡ symbols_of len (e + 1) source ++ drop (e + 1) start
+  source_next =
+      let s : List ℕ = piece len source e in
+      ap (λ (w : List (List ℕ)). set w e s) parts ∙ ap (λ (i : ℕ). set (front ++ get_or start e [] ∷ drop (suc e) start) i s) (sym (length_symbols len e source))
+      ∙ set-append_seam front (get_or start e []) (drop (suc e) start) s ∙ sym (append_assoc front (s ∷ []) (drop (suc e) start))
+      ∙ ap₂ (λ (w : List (List ℕ)) (i : ℕ). w ++ drop i start) (sym (symbols_more len e source)) (sym (add-one e))
+
+-- the source symbols in an arena of zero symbols
+pub source_alone : (m : Matrix) → IsCode m → (len : ℕ) (source : List ℕ) (start new : List (List ℕ)) (n k : ℕ) → n ≡ m.n → k ≡ m.k → start ≡ replicate n (zero_symbol len) → new ≡ symbols_of len k source ++ drop k start
+    → (length new ≡ m.n) × (new ≡ symbols_of len m.k source ++ replicate (m.n - m.k) (zero_symbol len))
+source_alone m code len source start new n k n_is k_is zeros put =
+    let is : new ≡ symbols_of len m.k source ++ replicate (m.n - m.k) (zero_symbol len) =
+    put ∙ ap (λ (i : ℕ). symbols_of len i source ++ drop i start) k_is
+    ∙ ap (λ (w : List (List ℕ)). symbols_of len m.k source ++ w) (ap (drop m.k) (zeros ∙ ap (λ (i : ℕ). replicate i (zero_symbol len)) n_is) ∙ drop-replicate m.k m.n (zero_symbol len)) in
+    (ap length is ∙ length-append (symbols_of len m.k source) (replicate (m.n - m.k) (zero_symbol len)) ∙ omega (arith, length_symbols len m.k source, length-replicate (m.n - m.k) (zero_symbol len), code.shape.count), is)
+
+-- ---- the repair symbols
+
+-- zero symbols behind a word don't change it
+padded_at : (len m : ℕ) (word : List (List ℕ)) (c : ℕ) → symbol_at len (word ++ replicate m (zero_symbol len)) c ≡ symbol_at len word c
+padded_at len zero [] c = refl
+padded_at len (suc m) [] zero = refl
+padded_at len (suc m) [] (suc c) = padded_at len m [] c
+padded_at len m (s ∷ word) zero = refl
+padded_at len m (s ∷ word) (suc c) = padded_at len m word c
 
 -- one row more extends the word by its sum
 extend_push : (len : ℕ) (rows word : List (List ℕ)) (row : List ℕ) → extend len (rows ++ row ∷ []) word ≡ extend len rows word ++ xor_sum len (symbol_at len (extend len rows word)) row ∷ []
 extend_push len [] word row = refl
 extend_push len (first ∷ rows) word row = extend_push len rows (word ++ xor_sum len (symbol_at len word) first ∷ []) row
 
-module _ (m : Matrix) (code : IsCode m) (len r : ℕ) (more : r < m.n - m.k) (bytes known rest : List ℕ)
-    (long : length bytes ≡ m.n * len) (known_is : known ≡ take ((m.k + r) * len) bytes) (rest_is : rest ≡ drop ((m.k + r) * len) bytes)
-    (zeros : drop ((m.k + r) * len) bytes ≡ replicate ((m.n - (m.k + r)) * len) 0) where
-  abbrev target : ℕ
-  target = (m.k + r) * len
+-- the word after r rows, with zero symbols behind it
+abbrev pub filled : Matrix → ℕ → List (List ℕ) → ℕ → List (List ℕ)
+filled m len source r = extend len (take r m.rows) source ++ replicate (m.n - m.k - r) (zero_symbol len)
 
-  left : m.n - (m.k + r) ≡ suc (m.n - (m.k + r + 1))
-  left = omega arith
+module _ (m : Matrix) (code : IsCode m) (len : ℕ) (source : List (List ℕ)) (count : length source ≡ m.k) (symbols : All (IsSymbol len) source) where
+  module _ (r : ℕ) (more : r < m.n - m.k) where
+    abbrev Zero : List ℕ
+    Zero = zero_symbol len
 
-  room : (m.n - (m.k + r)) * len ≡ (m.n - (m.k + r + 1)) * len + len
-  room = ap (λ (count : ℕ). count * len) left ∙ suc-mul (m.n - (m.k + r + 1)) len
+    abbrev word : List (List ℕ)
+    word = extend len (take r m.rows) source
 
-  -- the place of the row's repair symbol is zero
-  pub place_zero : take len rest ≡ zero_symbol len
-  place_zero = ap (take len) (rest_is ∙ zeros) ∙ take-replicate len ((m.n - (m.k + r)) * len) 0 (omega (arith, room))
+    abbrev left : ℕ
+    left = m.n - m.k - (r + 1)
 
-  target_fits : target ≤ m.n * len
-  target_fits = mul-le-mul_right len (omega arith)
+    word_long : length word ≡ m.k + r
+    word_long =
+        let tail = extend_is len (take r m.rows) source in
+        ap length tail.2 ∙ length-append source tail.0 ∙ omega (arith, tail.1, length-take-le r m.rows (omega (arith, code.shape.count)))
 
-  known_long : length known ≡ target
-  known_long = ap length known_is ∙ length-take-le target bytes (omega (arith, target_fits, long))
+    parts_at : filled m len source r ≡ word ++ Zero ∷ replicate left Zero
+    parts_at = let one : m.n - m.k - r ≡ suc left = omega arith in ap (λ (n : ℕ). word ++ replicate n Zero) one
 
-  module _ (sum : List ℕ) (start : List (List ℕ)) (sum_long : length sum ≡ len) where
-    abbrev new : List ℕ
-    new = known ++ (sum ++ drop len rest)
+    -- each is a symbol, and the row's own is zero
+    pub filled_symbols : All (IsSymbol len) (filled m len source r)
+    filled_symbols = All-append (IsSymbol len) word (replicate (m.n - m.k - r) Zero) (extend_symbols len (take r m.rows) source symbols) (All-replicate (IsSymbol len) (m.n - m.k - r) Zero (zero_is_symbol len))
 
-    new_rest : drop target new ≡ sum ++ drop len rest
-    new_rest = drop_at known (sum ++ drop len rest) target known_long
+    pub filled_own : get_or (filled m len source r) (m.k + r) [] ≡ Zero
+    filled_own = ap₂ (λ (w : List (List ℕ)) (i : ℕ). get_or w i []) parts_at (sym word_long) ∙ get_or-append_seam word Zero (replicate left Zero) []
 
-    pub filled_long : length (known ++ (sum ++ drop len rest)) ≡ length bytes
-    filled_long =
-        let rest_long : length rest ≡ length bytes - target = ap length rest_is ∙ length-drop target bytes in
-        let rest_room : length rest ≡ (m.n - (m.k + r)) * len = ap length (rest_is ∙ zeros) ∙ length-replicate ((m.n - (m.k + r)) * len) 0 in
-        length-append known (sum ++ drop len rest) ∙ omega (arith, length-append sum (drop len rest), length-drop len rest, rest_long, rest_room, known_long, sum_long, target_fits, long, room)
+    -- the row's sum in its own place is one row more
+    pub filled_next : set (filled m len source r) (m.k + r) (xor_sum len (symbol_at len (filled m len source r)) (row_of m r)) ≡ filled m len source (r + 1)
+    filled_next =
+        let x : symbol_at len (filled m len source r) ≡ symbol_at len word = fun_ext (padded_at len (m.n - m.k - r) word) in
+        let sum : List ℕ = xor_sum len (symbol_at len word) (row_of m r) in
+        ap (λ (y : ℕ → List ℕ). set (filled m len source r) (m.k + r) (xor_sum len y (row_of m r))) x ∙ ap₂ (λ (w : List (List ℕ)) (i : ℕ). set w i sum) parts_at (sym word_long)
+        ∙ set-append_seam word Zero (replicate left Zero) sum ∙ sym (append_assoc word (sum ∷ []) (replicate left Zero))
+        ∙ ap (λ (w : List (List ℕ)). w ++ replicate left Zero)
+        (sym (ap (λ (rows : List (List ℕ)). extend len rows source) (ap (λ (n : ℕ). take n m.rows) (add-one r) ∙ take-suc m.rows r [] (omega (arith, code.shape.count))) ∙ extend_push len (take r m.rows) source (row_of m r)))
 
-    pub filled_zero : drop ((m.k + (r + 1)) * len) (known ++ (sum ++ drop len rest)) ≡ replicate ((m.n - (m.k + (r + 1))) * len) 0
-    filled_zero =
-        let place : (m.k + (r + 1)) * len ≡ target + len = (let next : m.k + (r + 1) ≡ suc (m.k + r) = omega arith in ap (λ (count : ℕ). count * len) next) ∙ suc-mul (m.k + r) len in
-        let count : m.n - (m.k + (r + 1)) ≡ m.n - (m.k + r + 1) = omega arith in
-        ap (λ (at : ℕ). drop at new) place ∙ sym (drop-drop len target new) ∙ ap (drop len) new_rest ∙ drop_at sum (drop len rest) len sum_long
-        ∙ ap (drop len) (rest_is ∙ zeros) ∙ drop-replicate len ((m.n - (m.k + r)) * len) 0
-        ∙ ap (λ (size : ℕ). replicate size 0) (let size : (m.n - (m.k + r)) * len - len ≡ (m.n - (m.k + r + 1)) * len = omega (arith, room) in size ∙ ap (λ (c : ℕ). c * len) (sym count))
-
-    pub filled_word : symbols_of len (m.k + r) bytes ≡ extend len (take r m.rows) start
-        → sum ≡ xor_sum len (symbol_at len (symbols_of len (m.k + r) known)) (row_of m r)
-        → symbols_of len (m.k + (r + 1)) (known ++ (sum ++ drop len rest)) ≡ extend len (take (r + 1) m.rows) start
-    filled_word word sum_is =
-        let same : m.k + (r + 1) ≡ m.k + r + 1 = omega arith in
-        let front : symbols_of len (m.k + r) new ≡ symbols_of len (m.k + r) bytes =
-        sym (symbols_of_front len (m.k + r) new) ∙ ap (symbols_of len (m.k + r)) (take_at known (sum ++ drop len rest) target known_long ∙ known_is) ∙ symbols_of_front len (m.k + r) bytes in
-        let own : piece len new (m.k + r) ≡ sum = ap (take len) new_rest ∙ take_at sum (drop len rest) len sum_long in
-        let known_word : symbols_of len (m.k + r) known ≡ extend len (take r m.rows) start = ap (symbols_of len (m.k + r)) known_is ∙ symbols_of_front len (m.k + r) bytes ∙ word in
-        let inside : r < length m.rows = omega (arith, code.shape.count) in
-        ap (λ (count : ℕ). symbols_of len count new) same ∙ symbols_more len (m.k + r) new
-        ∙ ap₂ (λ (w : List (List ℕ)) (s : List ℕ). w ++ s ∷ []) (front ∙ word) (own ∙ sum_is ∙ ap (λ (w : List (List ℕ)). xor_sum len (symbol_at len w) (row_of m r)) known_word)
-        ∙ sym (ap (λ (rows : List (List ℕ)). extend len rows start) (ap (λ (count : ℕ). take count m.rows) (add-one r) ∙ take-suc m.rows r [] inside) ∙ extend_push len (take r m.rows) start (row_of m r))
-
--- with all rows done, the word is the codeword
-pub all_filled : (m : Matrix) → IsCode m → (len r : ℕ) (start bytes : List ℕ) → r ≡ m.n - m.k → length start ≡ m.n * len → All (λ b. b < 256) start
-    → symbols_of len (m.k + r) bytes ≡ extend len (take r m.rows) (symbols_of len m.k start) → IsEncoded m len (symbols_of len m.k start) (symbols_of len m.n bytes)
-all_filled m code len r start bytes end long small word =
-    let count : r ≡ length m.rows = omega (arith, code.shape.count) in
-    let all : m.k + r ≡ m.n = omega (arith, code.shape.count) in
-    let is : extend len m.rows (symbols_of len m.k start) ≡ symbols_of len m.n bytes =
-    ap (λ (rows : List (List ℕ)). extend len rows (symbols_of len m.k start)) (sym (take-length m.rows) ∙ ap (λ (c : ℕ). take c m.rows) (sym count)) ∙ sym word ∙ ap (λ (c : ℕ). symbols_of len c bytes) all in
-    let fits : m.k * len ≤ m.n * len = mul-le-mul_right len (omega (arith, code.shape.count)) in
-    subst (IsEncoded m len (symbols_of len m.k start)) is
-    (source_has m code.shape len (symbols_of len m.k start) (length_symbols len m.k start) (symbols_are len m.k start (omega (arith, fits, long)) small))
-
--- zero bytes behind the source don't change it
-pub encoded_padded : (m : Matrix) (len : ℕ) (source zeros start bytes : List ℕ) (n : ℕ) → length source ≡ m.k * len → start ≡ source ++ zeros → n ≡ m.n
-    → IsEncoded m len (symbols_of len m.k start) (symbols_of len m.n bytes) → IsEncoded m len (symbols_of len m.k source) (symbols_of len n bytes)
-encoded_padded m len source zeros start bytes n long padded count encoded =
-    let same : symbols_of len m.k start ≡ symbols_of len m.k source =
-    sym (symbols_of_front len m.k start) ∙ ap (symbols_of len m.k) (ap (take (m.k * len)) padded ∙ take_at source zeros (m.k * len) long) in
-    rw count (subst (λ (s : List (List ℕ)). IsEncoded m len s (symbols_of len m.n bytes)) same encoded)
+  -- with all rows done, the word is the codeword
+  pub filled_all : (r : ℕ) → r ≡ m.n - m.k → IsEncoded m len source (filled m len source r)
+  filled_all r end =
+      let none : m.n - m.k - r ≡ 0 = omega arith in
+      let all : r ≡ length m.rows = omega (arith, code.shape.count) in
+      let is : extend len m.rows source ≡ filled m len source r =
+      sym (ap₂ (λ (rows : List (List ℕ)) (n : ℕ). extend len rows source ++ replicate n (zero_symbol len)) (ap (λ (n : ℕ). take n m.rows) all ∙ take-length m.rows) none ∙ append-nil (extend len m.rows source)) in
+      subst (IsEncoded m len source) is (source_has m code.shape len source count symbols)

@@ -8,7 +8,7 @@ use Rattle.std.proofs.lemmas.List.Elements.{filter_more, filter_passes, All-from
 use Rattle.std.proofs.lemmas.List.{get_or-take, length-take}
 use Rattle.std.proofs.lemmas.List.FromFn.{length-map-range_with_len, get_or-map-range_with_len}
 use Rattle.std.proofs.lemmas.List.Kept.{AllPairs-from_increasing}
-use Rattle.sparse_rows.specs.Symbol.{xor, xor_sum}
+use Rattle.fec_base.specs.Symbol.{xor, xor_sum}
 use Rattle.sparse_rows.specs.Matrix.{Matrix, IsRow, row_of}
 use Rattle.sparse_rows.specs.Codeword.{IsAssignment}
 use Rattle.sparse_rows.specs.Closure.{Set, flagged, outside}

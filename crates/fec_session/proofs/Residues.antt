@@ -5,7 +5,7 @@ use Rattle.std.proofs.lemmas.Bool.{cases_lt, not-true}
 use Rattle.std.proofs.lemmas.List.{get_or-map, get_or_past, length-map, ext_get_or}
 use Rattle.std.proofs.lemmas.List.FromFn.{get_or-map-range_with_len, length-map-range_with_len}
 use Rattle.std.proofs.lemmas.List.Elements.{filter_passes, All-map, All-filter, All-from_get_or, All-head, All-tail}
-use Rattle.sparse_rows.specs.Symbol.{IsSymbol, xor, xor_sum, zero_symbol}
+use Rattle.fec_base.specs.Symbol.{IsSymbol, xor, xor_sum, zero_symbol}
 use Rattle.sparse_rows.specs.Codeword.{IsAssignment, Arrival, positions, symbol_at, SumsToZero}
 use Rattle.sparse_rows.specs.Closure.{Set, flagged, outside}
 use Rattle.sparse_rows.specs.Fitting.{IsFitting}
@@ -13,14 +13,17 @@ use Rattle.sparse_rows.proofs.Algebra.{total, total_split, total_agree, same_of_
 use Rattle.sparse_rows.proofs.Sets.{true_or_false, rounds_hold, any_from}
 use Rattle.sparse_rows.proofs.Shape.{row_below}
 use Rattle.sparse_rows.proofs.Closed.{row_within}
-use Rattle.sparse_rows.proofs.Planes.{byte, byte_laws, byte_sum, plane_zero, zero_from_planes, same_bytes, length_sum, symbol_at_is}
+use Rattle.fec_base.proofs.SymbolBytes.{byte, same_bytes}
+use Rattle.sparse_rows.proofs.Planes.{byte_laws, byte_sum, plane_zero, zero_from_planes, length_sum, symbol_at_is}
 use Rattle.sparse_rows.proofs.Null.{in_all, in_at}
 use Rattle.gauss.specs.Equations.{Equation, IsSolution}
 use Rattle.peeling.specs.Decoder.{Decoder, IsDecoder, kept}
-use Rattle.peeling.specs.Stands.{IsConsistent, StandsFor}
+use Rattle.sparse_rows.specs.Determined.{IsConsistent}
+use Rattle.peeling.specs.Stands.{StandsFor}
 use Rattle.peeling.proofs.Arrivals.{sums_agree}
 use Rattle.peeling.proofs.Decided.{kept_of_codeword}
-use Rattle.fec_session.specs.Residue.{unknown_columns, place, equation_of, has_any, is_open, residue, filled}
+use Rattle.fec_session.specs.Residue.{unknown_columns, place, equation_of, has_any, is_open, residue, completed, filled}
+use Rattle.fec_session.specs.Pairing.{open_symbols}
 use Rattle.fec_session.proofs.Places.{rank_less, rank_below, at_rank, rank_at, member_is, member_below, members_less}
 
 -- ---- lists
@@ -123,9 +126,13 @@ module _ (core : Decoder) where
 
 -- ---- words and solutions
 
--- the symbols of a word at the unknown columns
-abbrev pub read : Decoder → List (List ℕ) → ℕ → List ℕ
-read core word i = symbol_at core.len word (column core i)
+-- a symbol that is kept completes itself
+pub completed_known : (core : Decoder) (y : ℕ → List ℕ) (c : ℕ) → flagged core.known c ≡ true → completed core y c ≡ kept core c
+completed_known core y c e = rw e refl
+
+-- and where none is kept, y does
+pub completed_open : (core : Decoder) (y : ℕ → List ℕ) (c : ℕ) → flagged core.known c ≡ false → completed core y c ≡ y (place core c)
+completed_open core y c e = rw e refl
 
 module _ (core : Decoder) (is : IsDecoder core) (arrivals : List Arrival) (st : StandsFor core arrivals) (ok : core.clashed ≡ false) where
   consistent : IsConsistent core.matrix core.len arrivals (kept core)
@@ -135,15 +142,15 @@ module _ (core : Decoder) (is : IsDecoder core) (arrivals : List Arrival) (st : 
   word_keeps word h c e = sym (kept_of_codeword core arrivals word st h.codeword h.fits c e)
 
   -- the symbols of a word that fits solve the residue
-  pub to_solution : (word : List (List ℕ)) → IsFitting core.matrix core.len arrivals word → IsSolution (residue core) (read core word)
+  pub to_solution : (word : List (List ℕ)) → IsFitting core.matrix core.len arrivals word → IsSolution (residue core) (open_symbols core word)
   to_solution word h = record {
     symbols = λ i. hx (column core i);
-    sums = All-map (λ (e : Equation). xor_sum core.len (read core word) e.unknowns ≡ e.sum) (equation_of core) (filter (is_open core) core.matrix.rows)
-        (All-filter (is_open core) (λ row. xor_sum core.len (read core word) (map (place core) (outside (flagged core.known) row)) ≡ xor_sum core.len (kept core) (filter (flagged core.known) row)) core.matrix.rows
-        (All-from_get_or (λ row. xor_sum core.len (read core word) (map (place core) (outside (flagged core.known) row)) ≡ xor_sum core.len (kept core) (filter (flagged core.known) row)) core.matrix.rows [] (λ i lt.
-        sum_map core.len (read core word) (place core) (outside (flagged core.known) (get_or core.matrix.rows i []))
-        ∙ sums_agree core.len (λ c. read core word (place core c)) (symbol_at core.len word) (outside (flagged core.known) (get_or core.matrix.rows i []))
-        (outside_all core is i lt (λ c. read core word (place core c) ≡ symbol_at core.len word c) (λ c lt2 e. ap (symbol_at core.len word) (column_place core c lt2 e)))
+    sums = All-map (λ (e : Equation). xor_sum core.len (open_symbols core word) e.unknowns ≡ e.sum) (equation_of core) (filter (is_open core) core.matrix.rows)
+        (All-filter (is_open core) (λ row. xor_sum core.len (open_symbols core word) (map (place core) (outside (flagged core.known) row)) ≡ xor_sum core.len (kept core) (filter (flagged core.known) row)) core.matrix.rows
+        (All-from_get_or (λ row. xor_sum core.len (open_symbols core word) (map (place core) (outside (flagged core.known) row)) ≡ xor_sum core.len (kept core) (filter (flagged core.known) row)) core.matrix.rows [] (λ i lt.
+        sum_map core.len (open_symbols core word) (place core) (outside (flagged core.known) (get_or core.matrix.rows i []))
+        ∙ sums_agree core.len (λ c. open_symbols core word (place core c)) (symbol_at core.len word) (outside (flagged core.known) (get_or core.matrix.rows i []))
+        (outside_all core is i lt (λ c. open_symbols core word (place core c) ≡ symbol_at core.len word c) (λ c lt2 e. ap (symbol_at core.len word) (column_place core c lt2 e)))
         ∙ row_to core.len (flagged core.known) (kept core) (symbol_at core.len word) consistent.symbols hx (word_keeps word h) (get_or core.matrix.rows i []) (h.codeword.rows i [] lt))));
   }
     where
@@ -152,7 +159,7 @@ module _ (core : Decoder) (is : IsDecoder core) (arrivals : List Arrival) (st : 
 
   module _ (y : ℕ → List ℕ) (solves : IsSolution (residue core) y) where
     fill : ℕ → List ℕ
-    fill c = cond (flagged core.known c) (kept core c) (y (place core c))
+    fill = completed core y
 
     fill_is : IsAssignment core.len fill
     unfolding fill
@@ -191,11 +198,11 @@ module _ (core : Decoder) (is : IsDecoder core) (arrivals : List Arrival) (st : 
 
     word_length : length word_of ≡ core.matrix.n
     unfolding word_of
-    word_length = length-map-range_with_len (λ c. cond (flagged core.known c) (kept core c) (y (place core c))) 0 core.matrix.n
+    word_length = length-map-range_with_len (completed core y) 0 core.matrix.n
 
     word_at : (c : ℕ) → c < core.matrix.n → symbol_at core.len word_of c ≡ fill c
     unfolding word_of fill
-    word_at c lt = get_or-map-range_with_len (λ d. cond (flagged core.known d) (kept core d) (y (place core d))) 0 core.matrix.n c c (zero_symbol core.len) lt (zero-add c)
+    word_at c lt = get_or-map-range_with_len (completed core y) 0 core.matrix.n c c (zero_symbol core.len) lt (zero-add c)
 
     -- a solution gives a word that fits
     pub from_solution : IsFitting core.matrix core.len arrivals (filled core y)
@@ -220,7 +227,7 @@ module _ (core : Decoder) (is : IsDecoder core) (arrivals : List Arrival) (st : 
 
   -- a word that fits is that of its solution
   pub back : (word : List (List ℕ)) → IsFitting core.matrix core.len arrivals word → (y : ℕ → List ℕ) → (solves : IsSolution (residue core) y)
-      → ((i : ℕ) → i < length (unknown_columns core) → read core word i ≡ y i) → word ≡ filled core y
+      → ((i : ℕ) → i < length (unknown_columns core) → open_symbols core word i ≡ y i) → word ≡ filled core y
   unfolding word_of
   back word h y solves same = ext_get_or (zero_symbol core.len) word (filled core y) (h.codeword.count ∙ sym (from_solution y solves).codeword.count) (λ c lt.
       let lt2 : c < core.matrix.n = rw h.codeword.count at lt in

@@ -1,14 +1,21 @@
 -- The sum of a row is that of its columns before the repair symbol.
-use Rattle.std.proofs.Common.{Fits, w8, rules, ◌≡◌, ℕ, zero, suc, ◌+◌, ◌-◌, ◌*◌, ◌<◌, ◌≤◌, List, [], ◌∷◌, ◌++◌, length, get_or, take, drop, All, sym, ap, ap₂, ◌∙◌, ⊎_elim, inl, inr, ◌⊎◌, arith, add-one}
+use Rattle.std.proofs.Common.{Fits, w8, rules, ◌≡◌, ℕ, zero, suc, ◌+◌, ◌-◌, ◌<◌, ◌≤◌, List, [], ◌∷◌, ◌++◌, length, get_or, take, fold, All, refl, sym, ap, ap₂, ◌∙◌, subst, length-take-le, ⊎_elim, inl, inr, ◌⊎◌, arith, add-one}
 use Rattle.std.proofs.lemmas.Bool.{cases_lt}
 use Rattle.std.proofs.Math.Seq.{take-suc, take-length}
-use Rattle.std.proofs.lemmas.List.{get_or_past}
+use Rattle.std.proofs.lemmas.List.{get_or-take}
+use Rattle.std.proofs.lemmas.List.Sums.{fold_more}
 use Rattle.std.proofs.lemmas.List.Elements.{All-from_get_or}
-use Rattle.sparse_rows.specs.Symbol.{xor, zero_symbol, xor_sum, symbols_of}
+use Rattle.fec_base.specs.Symbol.{IsSymbol, xor, zero_symbol, xor_sum}
 use Rattle.sparse_rows.specs.Matrix.{Matrix, IsRow, IsCode, row_of}
 use Rattle.sparse_rows.specs.Codeword.{symbol_at, IsAssignment}
 use Rattle.sparse_rows.proofs.Planes.{symbol_at_is, length_sum}
-use Rattle.sparse_rows.proofs.Symbols.{length_symbols, symbol_is, symbol_room, symbols_are, xor_sum_push, symbol_xor_zero, piece}
+use Rattle.sparse_rows.proofs.Symbols.{xor_sum_push, symbol_xor_zero}
+
+-- a default doesn't matter where an item is
+any_default : {X : Type 0} (xs : List X) (i : ℕ) (d e : X) → i < length xs → get_or xs i d ≡ get_or xs i e
+any_default [] i d e lt = absurd (omega arith)
+any_default (x ∷ xs) zero d e lt = refl
+any_default (x ∷ xs) (suc i) d e lt = any_default xs i d e (omega arith)
 
 module _ (k last : ℕ) (row : List ℕ) (is : IsRow k last row) where
   -- a row holds a column
@@ -48,10 +55,6 @@ module _ (k last : ℕ) (row : List ℕ) (is : IsRow k last row) where
       let whole : length row ≡ suc (length row - 1) = omega (arith, row_some) in
       sym (take-length row) ∙ ap (λ (n : ℕ). take n row) whole ∙ take-suc row (length row - 1) 0 (omega (arith, row_some)) ∙ ap (λ (c : ℕ). take (length row - 1) row ++ c ∷ []) row_end
 
--- the symbols that lie in some bytes, as an assignment
-pub laid_is : (len count : ℕ) (bytes : List ℕ) → length bytes ≡ count * len → All (λ b. b < 256) bytes → IsAssignment len (symbol_at len (symbols_of len count bytes))
-laid_is len count bytes long small = symbol_at_is len (symbols_of len count bytes) (symbols_are len count bytes (omega (arith, long)) small)
-
 -- one column more of a row
 pub sum_more : (len : ℕ) (x : ℕ → List ℕ) → IsAssignment len x → (row : List ℕ) (i : ℕ) → i < length row → xor_sum len x (take (i + 1) row) ≡ xor (xor_sum len x (take i row)) (x (get_or row i 0))
 sum_more len x is row i lt = ap (λ (n : ℕ). xor_sum len x (take n row)) (add-one i) ∙ ap (xor_sum len x) (take-suc row i 0 lt) ∙ xor_sum_push len x (λ c. (is c).long) (take i row) (get_or row i 0)
@@ -66,44 +69,48 @@ sum_whole len k count x row is shape none =
 pub code_row : (m : Matrix) → IsCode m → (r : ℕ) → r < m.n - m.k → IsRow m.k (m.k + r) (row_of m r)
 code_row m code r lt = code.shape.row r (omega (arith, code.shape.count))
 
--- a symbol of a value that lies in some bytes
-pub laid_room : (len count : ℕ) (bytes : List ℕ) (word : List (List ℕ)) (e : ℕ) (seen : List ℕ) → length bytes ≡ count * len → symbols_of len count bytes ≡ word → seen ≡ bytes → e < length word
-    → e * len + len ≤ length seen
-laid_room len count bytes word e seen long is same lt =
-    let inside : e < count = rw (← is, length_symbols len count bytes) at lt in
-    let room : e * len + len ≤ count * len = symbol_room len count e inside in rw same (omega (arith, room, long))
+-- row r is added up in its own symbol, which is zero at first, from the symbols before it
+module _ (m : Matrix) (code : IsCode m) (r : ℕ) (more : r < m.n - m.k) (len : ℕ) (start : List (List ℕ)) (count : length start ≡ m.n) (each : All (IsSymbol len) start) where
+  abbrev own : ℕ
+  own = m.k + r
 
-pub laid_at : (len count : ℕ) (bytes : List ℕ) (word : List (List ℕ)) (e : ℕ) (seen : List ℕ) → symbols_of len count bytes ≡ word → seen ≡ bytes → e < length word
-    → take len (drop (e * len) seen) ≡ get_or word e []
-laid_at len count bytes word e seen is same lt =
-    let inside : e < count = rw (← is, length_symbols len count bytes) at lt in
-    ap (λ (b : List ℕ). take len (drop (e * len) b)) same ∙ sym (symbol_is len count bytes e [] inside) ∙ ap (λ (w : List (List ℕ)). get_or w e []) is
+  abbrev row : List ℕ
+  row = row_of m r
 
--- a row's symbols before its own lie in the symbols so far
-pub row_room : (len : ℕ) (m : Matrix) → IsCode m → (r : ℕ) → r < m.n - m.k → (known : List ℕ) → length known ≡ (m.k + r) * len → (i : ℕ) → i < length (row_of m r) - 1
-    → get_or (row_of m r) i 0 * len + len ≤ length known
-row_room len m code r lt known long i before =
-    omega (arith, long, symbol_room len (m.k + r) (get_or (row_of m r) i 0) (row_before m.k (m.k + r) (row_of m r) (code_row m code r lt) i before))
+  abbrev x : ℕ → List ℕ
+  x = symbol_at len start
 
--- one column more of row r
-pub row_more : (len : ℕ) (m : Matrix) → IsCode m → (r : ℕ) → r < m.n - m.k → (known : List ℕ) → length known ≡ (m.k + r) * len → All (λ b. b < 256) known → (i : ℕ) → i < length (row_of m r) - 1
-    → (sum new piece : List ℕ) → sum ≡ xor_sum len (symbol_at len (symbols_of len (m.k + r) known)) (take i (row_of m r)) → piece ≡ take len (drop (get_or (row_of m r) i 0 * len) known)
-    → new ≡ xor sum piece → new ≡ xor_sum len (symbol_at len (symbols_of len (m.k + r) known)) (take (i + 1) (row_of m r))
-row_more len m code r lt known long small i before sum new piece sum_is piece_is new_is =
-    let x : ℕ → List ℕ = symbol_at len (symbols_of len (m.k + r) known) in
-    let c : ℕ = get_or (row_of m r) i 0 in
-    let inside : c < m.k + r = row_before m.k (m.k + r) (row_of m r) (code_row m code r lt) i before in
-    let here : piece ≡ x c = piece_is ∙ sym (symbol_is len (m.k + r) known c (zero_symbol len) inside) in
-    new_is ∙ ap₂ xor sum_is here ∙ sym (sum_more len x (laid_is len (m.k + r) known long small) (row_of m r) i (omega arith))
+  inside : own < length start
+  inside = omega (arith, code.shape.count)
 
--- all columns of row r
-pub row_whole : (len : ℕ) (m : Matrix) → IsCode m → (r : ℕ) → r < m.n - m.k → (known : List ℕ) → length known ≡ (m.k + r) * len → All (λ b. b < 256) known → (sum : List ℕ) (i : ℕ) → i ≡ length (row_of m r) - 1
-    → sum ≡ xor_sum len (symbol_at len (symbols_of len (m.k + r) known)) (take i (row_of m r)) → sum ≡ xor_sum len (symbol_at len (symbols_of len (m.k + r) known)) (row_of m r)
-row_whole len m code r lt known long small sum i end is =
-    let x : ℕ → List ℕ = symbol_at len (symbols_of len (m.k + r) known) in
-    is ∙ ap (λ (j : ℕ). xor_sum len x (take j (row_of m r))) end
-    ∙ sum_whole len m.k (m.k + r) x (row_of m r) (laid_is len (m.k + r) known long small) (code_row m code r lt)
-    (get_or_past (symbols_of len (m.k + r) known) (m.k + r) (zero_symbol len) (omega (arith, length_symbols len (m.k + r) known)))
+  x_is : IsAssignment len x
+  x_is = symbol_at_is len start each
+
+  -- the columns before the row's own, added one after another
+  added : get_or start own [] ≡ zero_symbol len → (i : ℕ) → i ≤ length row - 1 → fold (λ s c. xor s (get_or start c [])) (get_or start own []) (take i row) ≡ xor_sum len x (take i row)
+  added none zero le = none
+  added none (suc i) le =
+      let c : ℕ = get_or row i 0 in
+      let next : suc i ≡ i + 1 = omega arith in
+      let before : c < own = row_before m.k own row (code_row m code r more) i (omega arith) in
+      ap (λ (n : ℕ). fold (λ s c. xor s (get_or start c [])) (get_or start own []) (take n row)) next ∙ fold_more (λ s c. xor s (get_or start c [])) (get_or start own []) row i 0 (omega arith)
+      ∙ ap₂ xor (added none i (omega arith)) (any_default start c [] (zero_symbol len) (omega (arith, inside)))
+      ∙ sym (sum_more len x x_is row i (omega arith)) ∙ sym (ap (λ (n : ℕ). xor_sum len x (take n row)) next)
+
+  -- all of them make the row's sum
+  pub added_all : get_or start own [] ≡ zero_symbol len → (columns : List ℕ) → columns ≡ take (length row - 1) row → fold (λ s c. xor s (get_or start c [])) (get_or start own []) columns ≡ xor_sum len x row
+  added_all none columns is =
+      ap (fold (λ s c. xor s (get_or start c [])) (get_or start own [])) is ∙ added none (length row - 1) (omega arith)
+      ∙ sum_whole len m.k own x row x_is (code_row m code r more) (any_default start own (zero_symbol len) [] inside ∙ none)
+
+-- the columns before the row's own are below it
+pub row_below : (m : Matrix) → IsCode m → (r : ℕ) → r < m.n - m.k → (columns : List ℕ) → columns ≡ take (length (row_of m r) - 1) (row_of m r) → All (λ c. c < m.k + r) columns
+row_below m code r more columns is = subst (All (λ c. c < m.k + r)) (sym is) (λ i d lt.
+    let row : List ℕ = row_of m r in
+    let before : i < length row - 1 = omega (arith, length-take-le (length row - 1) row (omega arith)) in
+    let low : get_or row i 0 < m.k + r = row_before m.k (m.k + r) row (code_row m code r more) i before in
+    let is_row : get_or (take (length row - 1) row) i d ≡ get_or row i 0 = get_or-take (length row - 1) row i d before ∙ any_default row i d 0 (omega arith) in
+    omega (arith, is_row, low))
 
 -- bytes are below 256
 pub bytes_small : (bytes : List ℕ) → ((i : ℕ) → Fits w8 (get_or bytes i 0)) → All (λ b. b < 256) bytes

@@ -1,22 +1,22 @@
 -- What an answer for the residue says of the arrivals.
-use Rattle.std.proofs.Common.{le_antisymm, ◌≡◌, ◌≢◌, ℕ, ◌+◌, ◌%◌, ◌<◌, ◌≤◌, ⊎_elim, true, false, ◌==◌, List, [], ◌∷◌, ◌++◌, length, get_or, filter, map, take, All, count_by, refl, sym, ap, ◌∙◌, subst, arith, true≢false, eqb-true, eq-eqb, zero-add}
-use Rattle.std.specs.List.{range_with_len}
+use Rattle.std.proofs.Common.{le_antisymm, ◌≡◌, ◌≢◌, ◌↔◌, ℕ, ◌+◌, ◌%◌, ◌<◌, ◌≤◌, ⊎_elim, true, false, ◌==◌, List, [], ◌∷◌, length, get_or, filter, map, take, All, count_by, refl, sym, ap, ◌∙◌, subst, arith, true≢false, eqb-true, eq-eqb, zero-add}
 use Rattle.std.specs.List.Sorted.{IsStrictlyIncreasing}
 use Rattle.std.proofs.Math.Bool.{xor as bool_xor}
 use Rattle.std.proofs.lemmas.Bool.{cases_lt, false_from_ne_true}
-use Rattle.std.proofs.lemmas.List.{get_or-map, get_or-take, get_or_default, length-map, length-take-le, ext_get_or}
+use Rattle.std.proofs.lemmas.List.{get_or-map, get_or-take, length-map, length-take-le, ext_get_or}
 use Rattle.std.proofs.lemmas.List.FromFn.{get_or-map-range_with_len, length-map-range_with_len}
-use Rattle.std.proofs.lemmas.List.Elements.{All-append, All-map, All-filter, All-from_get_or}
-use Rattle.sparse_rows.specs.Symbol.{zero_symbol}
+use Rattle.std.proofs.lemmas.List.Elements.{All-map, All-filter, All-from_get_or}
+use Rattle.fec_base.specs.Symbol.{zero_symbol}
 use Rattle.sparse_rows.specs.Codeword.{Arrival, positions, symbol_at, SumsToZero}
 use Rattle.sparse_rows.specs.Closure.{Set, flagged, outside, closure}
-use Rattle.sparse_rows.specs.NullWord.{IsNullWord, IsFirstNullWord, is_in, last_of}
+use Rattle.sparse_rows.specs.Matrix.{is_in}
+use Rattle.sparse_rows.specs.NullWord.{IsNullWord, IsFirstNullWord, last_of}
 use Rattle.sparse_rows.specs.Fitting.{IsFitting, IsUndetermined}
 use Rattle.sparse_rows.proofs.Algebra.{total, total_same, total_split, total_agree, total_zero}
 use Rattle.sparse_rows.proofs.Parity.{bit_laws, even_from, even_to}
 use Rattle.sparse_rows.proofs.Sets.{true_or_false, same_test, rounds_hold, or_cases, or_first, or_second}
 use Rattle.sparse_rows.proofs.Shape.{row_below}
-use Rattle.sparse_rows.proofs.Null.{null_outside, null_even, all_from_in, in_all, in_at, range_below}
+use Rattle.sparse_rows.proofs.Null.{null_outside, null_even, all_from_in, in_all, in_at}
 use Rattle.null_witness.proofs.Subsets.{null_closure}
 use Rattle.null_witness.proofs.Increasing.{last_in}
 use Rattle.null_witness.proofs.Determined.{two_of_null}
@@ -27,11 +27,12 @@ use Rattle.peeling.specs.Decoder.{Decoder, IsDecoder, HasAllSource, kept}
 use Rattle.peeling.specs.Stands.{StandsFor}
 use Rattle.peeling.proofs.Closure.{closure_full}
 use Rattle.peeling.proofs.Decided.{codeword_consistent, kept_of_codeword}
-use Rattle.fec_session.specs.Residue.{unknown_columns, place, equation_of, is_open, residue, filled, columns_at}
-use Rattle.fec_session.specs.Block.{kept_source}
-use Rattle.fec_session.specs.Residual.{fed}
-use Rattle.fec_session.specs.Verdict.{IsSource}
-use Rattle.fec_session.proofs.Residues.{all_kept, all_mapped, outside_none, column, column_is, column_place, column_less, place_below, place_less, outside_all, read, to_solution, from_solution, filled_at, back}
+use Rattle.fec_session.specs.Residue.{unknown_columns, place, equation_of, is_open, residue, completed, filled}
+use Rattle.fec_session.specs.Pairing.{open_symbols}
+use Rattle.fec_session.specs.Residual.{columns_at}
+use Rattle.fec_session.specs.Kept.{source_of}
+use Rattle.sparse_rows.specs.Determined.{HoldsSource, IsSource}
+use Rattle.fec_session.proofs.Residues.{all_kept, all_mapped, outside_none, column, column_is, column_place, column_less, place_below, place_less, outside_all, completed_known, to_solution, from_solution, back}
 
 -- ---- lists of columns
 
@@ -155,19 +156,22 @@ module _ (core : Decoder) (is : IsDecoder core) (arrivals : List Arrival) (st : 
           let le : last_of set ≤ place core c = subst (λ i. last_of set ≤ i) (last_map (place core) other null.nonempty) (first.least (map (place core) other) (to_null_set other null)) in
           subst (λ i. i ≤ c) (sym (last_map (column core) set first.null.nonempty)) (subst (λ d. column core (last_of set) ≤ d) (column_place core c lt e) (column_most (last_of set) (place core c) le (place_below core c lt e)))
 
--- ---- the source that is kept
+-- ---- the source
 
--- a word with the symbols that are kept has the source that is kept
-source_kept : (core : Decoder) (word : List (List ℕ)) → core.matrix.k ≤ length word → ((c : ℕ) → c < core.matrix.k → symbol_at core.len word c ≡ kept core c) → take core.matrix.k word ≡ kept_source core
-source_kept core word le same = ext_get_or (zero_symbol core.len) (take core.matrix.k word) (kept_source core)
-    (length-take-le core.matrix.k word le ∙ sym (length-map-range_with_len (kept core) 0 core.matrix.k))
+-- a word whose source symbols are those that are kept, and the values for the others, has this source
+source_is : (core : Decoder) (values word : List (List ℕ)) → core.matrix.k ≤ length word
+    → ((c : ℕ) → c < core.matrix.k → symbol_at core.len word c ≡ completed core (symbol_at core.len values) c)
+    → take core.matrix.k word ≡ source_of core values
+source_is core values word le same = ext_get_or (zero_symbol core.len) (take core.matrix.k word) (source_of core values)
+    (length-take-le core.matrix.k word le ∙ sym (length-map-range_with_len (completed core (symbol_at core.len values)) 0 core.matrix.k))
     (λ c lt. let lt2 : c < core.matrix.k = rw (length-take-le core.matrix.k word le) at lt in
-    get_or-take core.matrix.k word c (zero_symbol core.len) lt2 ∙ same c lt2 ∙ sym (get_or-map-range_with_len (kept core) 0 core.matrix.k c c (zero_symbol core.len) lt2 (zero-add c)))
+    get_or-take core.matrix.k word c (zero_symbol core.len) lt2 ∙ same c lt2
+    ∙ sym (get_or-map-range_with_len (completed core (symbol_at core.len values)) 0 core.matrix.k c c (zero_symbol core.len) lt2 (zero-add c)))
 
--- where all of the source is known, a word that fits has the source that is kept
-source_of : (core : Decoder) → core.matrix.k ≤ core.matrix.n → (arrivals : List Arrival) → StandsFor core arrivals → HasAllSource core
-    → (word : List (List ℕ)) → IsFitting core.matrix core.len arrivals word → take core.matrix.k word ≡ kept_source core
-source_of core le arrivals st all word h = source_kept core word (omega (arith, h.codeword.count)) (λ c lt. sym (kept_of_codeword core arrivals word st h.codeword h.fits c (all c lt)))
+-- the decoder knows the source exactly where the closure of what arrived holds it
+pub source_held : (core : Decoder) (arrivals : List Arrival) → StandsFor core arrivals
+    → HasAllSource core ↔ HoldsSource core.matrix arrivals
+source_held core arrivals st = (λ all c lt. sym (st.known c) ∙ all c lt, λ all c lt. st.known c ∙ all c lt)
 
 -- ---- the verdicts
 
@@ -184,7 +188,7 @@ module _ (core : Decoder) (is : IsDecoder core) (arrivals : List Arrival) (st : 
   sizes = omega (arith, is.code.shape.count)
 
   -- where all of the source is known, the kept symbols are the one word that fits
-  pub peeled_source : HasAllSource core → IsSource core arrivals (kept_source core)
+  pub peeled_source : HasAllSource core → IsSource core.matrix core.len arrivals (source_of core [])
   peeled_source all = record {
     word = core.symbols;
     fits = record {
@@ -196,7 +200,8 @@ module _ (core : Decoder) (is : IsDecoder core) (arrivals : List Arrival) (st : 
       };
       fits = (st.agrees ok).fits;
     };
-    only = λ other h. source_of core sizes arrivals st all other h;
+    only = λ other h. source_is core [] other (omega (arith, sizes, h.codeword.count)) (λ c lt.
+        sym (kept_of_codeword core arrivals other st h.codeword h.fits c (all c lt)) ∙ sym (completed_known core (symbol_at core.len []) c (all c lt)));
   }
     where
       full : (c : ℕ) → c < core.matrix.n → flagged core.known c ≡ true
@@ -204,7 +209,7 @@ module _ (core : Decoder) (is : IsDecoder core) (arrivals : List Arrival) (st : 
 
   -- where nothing solves the residue no word fits
   pub none_solves : IsAnswer (residue core) answer.Clash → (word : List (List ℕ)) → ¬ IsFitting core.matrix core.len arrivals word
-  none_solves unsolved word h = unsolved (read core word) (to_solution core is arrivals st ok word h)
+  none_solves unsolved word h = unsolved (open_symbols core word) (to_solution core is arrivals st ok word h)
 
   -- where several do, words of two sources fit, and the first null set gives the first null word
   pub two_fit : (set : List ℕ) → IsAnswer (residue core) (answer.Free set) → IsUndetermined core.matrix core.len arrivals × IsFirstNullWord core.matrix (positions arrivals) (columns_at core set)
@@ -222,26 +227,14 @@ module _ (core : Decoder) (is : IsDecoder core) (arrivals : List Arrival) (st : 
 
     -- it is the only word that fits
     only_word : (other : List (List ℕ)) → IsFitting core.matrix core.len arrivals other → other ≡ word
-    only_word other h = back core is arrivals st ok other h (symbol_at core.len values) a.solves (λ i lt. a.only (read core other) (to_solution core is arrivals st ok other h) i lt)
+    only_word other h = back core is arrivals st ok other h (symbol_at core.len values) a.solves (λ i lt. a.only (open_symbols core other) (to_solution core is arrivals st ok other h) i lt)
 
-    -- it has the symbols that are fed, too
-    word_fed : IsFitting core.matrix core.len (arrivals ++ fed (unknown_columns core) values (length (unknown_columns core))) word
-    word_fed = record {
-      codeword = word_fits.codeword;
-      fits = All-append (λ (a : Arrival). symbol_at core.len word a.0 ≡ a.1) arrivals (fed (unknown_columns core) values (length (unknown_columns core))) word_fits.fits
-          (All-map (λ (a : Arrival). symbol_at core.len word a.0 ≡ a.1) (λ i. (column core i, get_or values i [])) (range_with_len 0 (length (unknown_columns core))) (λ k d lt. fed_at _ (range_below (length (unknown_columns core)) k d lt)));
-    }
-      where
-        fed_at : (i : ℕ) → i < length (unknown_columns core) → symbol_at core.len word (column core i) ≡ get_or values i []
-        fed_at i lt = filled_at core is arrivals st ok (symbol_at core.len values) a.solves i lt ∙ get_or_default values i (zero_symbol core.len) [] (rw a.count lt)
-
-    -- so a decoder that was fed and knows the source has the one source
-    pub solved_source : (columns : List ℕ) → columns ≡ unknown_columns core → (source : List (List ℕ))
-        → ((fuller : Decoder) × (fuller.matrix ≡ core.matrix) × (fuller.len ≡ core.len) × StandsFor fuller (arrivals ++ fed columns values (length columns)) × HasAllSource fuller × (source ≡ kept_source fuller))
-        → IsSource core arrivals source
-    solved_source columns all_unknown source (fuller, matrix, len, stands, all, kept_is) = record {
+    -- its source is that of the symbols that are kept and the values
+    pub solved_source : IsSource core.matrix core.len arrivals (source_of core values)
+    solved_source = record {
       word = word;
       fits = word_fits;
-      only = λ other h. ap (take core.matrix.k) (only_word other h) ∙ ap (λ m. take m.k word) (sym matrix)
-          ∙ source_of fuller (rw matrix sizes) (arrivals ++ fed columns values (length columns)) stands all word (rw (matrix, len, all_unknown) word_fed) ∙ sym kept_is;
+      only = λ other h. ap (take core.matrix.k) (only_word other h)
+          ∙ source_is core values word (omega (arith, sizes, word_fits.codeword.count))
+          (λ c lt. get_or-map-range_with_len (completed core (symbol_at core.len values)) 0 core.matrix.n c c (zero_symbol core.len) (omega (arith, sizes)) (zero-add c));
     }

@@ -2,7 +2,15 @@
 pub use Rattle.peeling.specs.Decoder
 pub use Rattle.peeling.specs.Stands
 pub use Rattle.peeling.specs.Outcome
-pub mod Residue
 pub mod Block
+pub mod Determines
 pub mod Verdict
+pub mod Session
+pub mod SessionVerdict
+pub mod Residue
+pub mod Pairing
+pub mod Forced
+pub mod Laws
 pub mod Residual
+pub mod Kept
+pub mod Small

@@ -1,20 +1,26 @@
--- What elimination finds of a residue.
-use Rattle.std.specs.Prelude.{◌≡◌, ℕ, List, [], map, slice_index, slice_index_or}
-use Rattle.std.specs.List.{range_with_len}
-use Rattle.sparse_rows.specs.Codeword.{Arrival}
+-- Inside: what elimination finds of a residue, and equations that are being filled in.
+use Rattle.std.specs.Prelude.{◌≡◌, ℕ, List, map, slice_index}
 use Rattle.peeling.specs.Decoder.{Decoder}
+use Rattle.gauss.specs.Equations.{Equation}
 use Rattle.gauss.specs.Answer.{IsAnswer}
 use Rattle.gauss.specs.declared.answer.Answer.TheVariants as answer
-use Rattle.fec_session.specs.Residue.{columns_at, residue, unknown_columns}
+use Rattle.fec_session.specs.Residue.{residue, unknown_columns}
 use Rattle.fec_session.specs.declared.finish.Residual.{Residual}
 use Rattle.fec_session.specs.declared.finish.Residual.TheVariants as residual
 
--- no symbols solve the residue; or these do at the unknown columns, and no others; or this is the first null set, as columns
+-- the columns at some places
+abbrev pub columns_at : Decoder → List ℕ → List ℕ
+columns_at d places = map (slice_index (unknown_columns d)) places
+
+-- no symbols solve the residue; or these do at the unknown columns, and no others; or some do, and
+-- this is the first null set, as columns
 abbrev pub IsResidual : Decoder → Residual → Type 0
 IsResidual d residual.Clash = IsAnswer (residue d) answer.Clash
-IsResidual d (residual.Solved columns values) = (columns.items ≡ unknown_columns d) × IsAnswer (residue d) (answer.One values)
-IsResidual d (residual.Open word) = (set : List ℕ) × IsAnswer (residue d) (answer.Free set) × (word ≡ columns_at d set)
+IsResidual d (residual.Solved columns values) =
+    (columns.items ≡ unknown_columns d) × IsAnswer (residue d) (answer.One values)
+IsResidual d (residual.Open word) =
+    (set : List ℕ) × IsAnswer (residue d) (answer.Free set) × (word ≡ columns_at d set)
 
--- the first `count` columns, with their symbols, as arrivals
-abbrev pub fed : List ℕ → List (List ℕ) → ℕ → List Arrival
-fed columns values count = map (λ i. (slice_index columns i, slice_index_or values i [])) (range_with_len 0 count)
+-- the equation with these unknowns
+abbrev pub with_unknowns : List ℕ → Equation → Equation
+with_unknowns unknowns e = record { unknowns = unknowns; sum = e.sum }

@@ -1,7 +1,8 @@
 -- What peeling leaves to elimination.
-use Rattle.std.specs.Prelude.{ℕ, not, cond, Bool, true, false, List, [], ◌∷◌, length, map, filter, slice_index}
+use Rattle.std.specs.Prelude.{ℕ, not, cond, Bool, true, false, List, [], ◌∷◌}
+use Rattle.std.specs.Prelude.{length, map, filter}
 use Rattle.std.specs.List.{range_with_len}
-use Rattle.sparse_rows.specs.Symbol.{xor_sum}
+use Rattle.fec_base.specs.Symbol.{xor_sum}
 use Rattle.sparse_rows.specs.Closure.{flagged, members, outside}
 use Rattle.peeling.specs.Decoder.{Decoder, kept}
 use Rattle.gauss.specs.Equations.{Equation, System}
@@ -16,7 +17,10 @@ place d c = length (members c (λ b. not (flagged d.known b)))
 
 -- a row as an equation: the places of its unknown columns, and the sum of its known symbols
 abbrev pub equation_of : Decoder → List ℕ → Equation
-equation_of d row = record { unknowns = map (place d) (outside (flagged d.known) row); sum = xor_sum d.len (kept d) (filter (flagged d.known) row) }
+equation_of d row = record {
+  unknowns = map (place d) (outside (flagged d.known) row);
+  sum = xor_sum d.len (kept d) (filter (flagged d.known) row);
+}
 
 -- whether the list has an item
 abbrev pub has_any : List ℕ → Bool
@@ -29,16 +33,16 @@ is_open d row = has_any (outside (flagged d.known) row)
 
 -- the rows with an unknown column, as equations between the unknown symbols
 abbrev pub residue : Decoder → System
-residue d = record { unknowns = length (unknown_columns d); len = d.len; equations = map (equation_of d) (filter (is_open d) d.matrix.rows) }
+residue d = record {
+  unknowns = length (unknown_columns d);
+  len = d.len;
+  equations = map (equation_of d) (filter (is_open d) d.matrix.rows);
+}
+
+-- the symbol of a column: the one that is kept, or where none is the one of y at the column's place
+abbrev pub completed : Decoder → (ℕ → List ℕ) → ℕ → List ℕ
+completed d y c = cond (flagged d.known c) (kept d c) (y (place d c))
 
 -- the word with the known symbols, and those of y at the unknown columns
 abbrev pub filled : Decoder → (ℕ → List ℕ) → List (List ℕ)
-filled d y = map (λ c. cond (flagged d.known c) (kept d c) (y (place d c))) (range_with_len 0 d.matrix.n)
-
--- the equation with these unknowns
-abbrev pub with_unknowns : List ℕ → Equation → Equation
-with_unknowns unknowns e = record { unknowns = unknowns; sum = e.sum }
-
--- the columns at some places
-abbrev pub columns_at : Decoder → List ℕ → List ℕ
-columns_at d places = map (slice_index (unknown_columns d)) places
+filled d y = map (completed d y) (range_with_len 0 d.matrix.n)

@@ -1,7 +1,8 @@
 // The decoder of one source block.
-ghost use Rattle.std.specs.Prelude.{◌≡◌, ◌↔◌, ◌<◌, ◌≤◌, ℕ, true, [], IsTrue, IsSome, IfSome, IfOk, IfErr, length, count_by};
+ghost use Rattle.std.specs.Prelude.{◌≡◌, ◌↔◌, ◌<◌, ◌≤◌, ◌+◌, ◌*◌, ℕ, true, [], IsTrue, IsSome};
+ghost use Rattle.std.specs.Prelude.{IfSome, IfOk, IfErr, length, count_by};
 ghost use Rattle.sparse_rows.specs.Closure.{flagged};
-ghost use Rattle.peeling.specs.Decoder.{kept, HasAllSource, IsDecoder, IsEmpty};
+ghost use Rattle.peeling.specs.Decoder.{kept, known_entries, HasAllSource, IsDecoder, IsEmpty};
 ghost use Rattle.peeling.specs.Stands.{StandsFor, Receives};
 ghost use Rattle.peeling.specs.Outcome.{IsOutcome};
 ghost use Rattle.fec_session.specs.Verdict.{Decides, Holds};
@@ -19,7 +20,8 @@ mod tests;
 
 /// The decoder of one source block. It takes encoding symbols in any order and any number, and
 /// rebuilds by peeling each symbol that is the only unknown one of some row. It has room for the n
-/// symbols of the code, of `len` bytes each, from the start: no call but `new` takes memory.
+/// symbols of the code, of `len` bytes each, from the start: no call but `new` and `finish` takes
+/// memory.
 #[derive(Drop)]
 pub struct Core {
     peeler: Peeler,
@@ -57,6 +59,8 @@ impl Core {
         ensures outcome { IsOutcome result self.old e bytes.now }
         ensures received { Receives self.old self.new e bytes.now }
         ensures steps { steps.old ≤ steps.new }
+        ensures bound { steps.new + 2 * known_entries self.old
+            ≤ steps.old + 2 * known_entries self.new }
     {
         self.peeler.arrive(e, bytes, steps)
     }
@@ -130,8 +134,10 @@ impl Core {
         self.peeler.clashed()
     }
 
-    /// What the symbols that arrived determine: peeling first, and then elimination of what it leaves.
-    /// `NoMemory` hands the core back as it was.
+    /// What the symbols that arrived determine: peeling first, and then elimination of what it
+    /// leaves, over the rows with an unknown column. For that it takes a bit for each unknown
+    /// column of each such row, and a symbol for each of them. `NoMemory` hands the core back as it
+    /// was.
     pub fn finish(self, alloc: Global) -> Result<Verdict, (Core, NoMemory)>
         ensures verdict { IfOk result (Decides self) }
         ensures holds { IfOk result (Holds self) }
@@ -148,7 +154,7 @@ impl Core {
         match eliminate(alloc, &self) {
             Ok(Residual::Clash) => Ok(Verdict::NoCodeword(self)),
             Ok(Residual::Solved(columns, values)) => {
-                Ok(Verdict::Block(SourceBlock::solved(self, &columns, &values)))
+                Ok(Verdict::Block(SourceBlock::solved(self, columns, values)))
             }
             Ok(Residual::Open(word)) => Ok(Verdict::Undetermined(self, word)),
             Err(refused) => Err((self, refused)),

@@ -1,32 +1,29 @@
 // The codeword of a source block, repair symbol by repair symbol.
-ghost use Rattle.std.specs.Prelude.{◌≡◌, ◌<◌, ◌≤◌, ◌+◌, ◌-◌, ◌*◌, ◌++◌, [], take, drop, replicate, length, slice_index_or, IfOk};
+ghost use Rattle.std.specs.Prelude.{◌≡◌, ◌<◌, ◌≤◌, ◌+◌, ◌-◌, ◌*◌, ◌++◌, ℕ, List, [], All, take};
+ghost use Rattle.std.specs.Prelude.{drop, replicate, length, slice_index_or, slice_set, IfOk};
+ghost use Rattle.std.specs.Vec.{vec_capacity};
 ghost use Rattle.sparse_rows.specs.Matrix.{IsCode, row_of};
-ghost use Rattle.sparse_rows.specs.Symbol.{xor, xor_sum, zero_symbol, symbols_of};
+ghost use Rattle.fec_base.specs.Symbol.{IsSymbol, xor_sum, zero_symbol, symbols_of};
 ghost use Rattle.sparse_rows.specs.Codeword.{symbol_at, IsEncoded};
 
 use fec_base::{Ledger, NoMemory, Steps, Tally};
 use sparse_rows::Code;
 use std::alloc::Global;
 use std::marker::Model;
+use symbol_arena::Arena;
 
 /// A codeword: n encoding symbols of `len` bytes each, the k source symbols first.
 #[derive(Drop)]
 pub struct Coded {
-    count: usize,
-    len: usize,
-    // The symbols one after the other.
-    bytes: Vec<u8>,
+    symbols: Arena,
 }
 
 impl Model for Coded {
-    ghost use Rattle.std.specs.Prelude.{◌≡◌, ◌*◌, ℕ, List, length};
-    ghost use Rattle.sparse_rows.specs.Symbol.{symbols_of};
+    ghost use Rattle.std.specs.Prelude.{ℕ, List};
 
     ghost Value = { List (List ℕ) };
 
-    ghost view = { λ word. symbols_of word.len word.count word.bytes.items };
-
-    ghost invariant = { λ word. length word.bytes.items ≡ word.count * word.len };
+    ghost view = { λ word. word.symbols };
 }
 
 impl Coded {
@@ -35,92 +32,105 @@ impl Coded {
         requires { e < length self.now }
         ensures { result.now ≡ slice_index_or self.now e [] }
     {
-        symbol_at(&self.bytes, self.len, e as usize)
+        self.symbols.get(e)
+    }
+
+    /// The n encoding symbols, of `len` bytes each: a list of them without a copy.
+    pub fn arena(&self) -> &Arena
+        ensures { result.now ≡ self.now }
+    {
+        &self.symbols
     }
 }
 
 /// Encodes a source block: `source` holds the k source symbols of `len` bytes one after the other.
-/// The repair symbols follow row by row, each as the sum of the row's other symbols, in one pass
-/// over the entries of the matrix. The source is copied once, into its place.
+///
+/// Row i of the matrix ends with its own repair symbol k + i, which is the sum of the row's other
+/// symbols, and these stand before it. So one pass over the rows fills the repair symbols. Each sum
+/// is made tile by tile: the row's symbols are read once, and the sum is written once. The source
+/// is copied once, into its place, and beside the n symbols the call holds one row's columns.
+/// `NoMemory` comes where the memory for these is refused.
 pub fn encode_block(alloc: Global, code: &Code, source: &[u8], len: u32) -> Result<Coded, NoMemory>
     requires some { 1 ≤ len }
     requires most { len ≤ 65535 }
     requires source { length source.now ≡ code.now.k * len }
-    ensures { IfOk result (λ word. IsEncoded code.now len (symbols_of len code.now.k source.now) word) }
+    ensures { IfOk result
+        (λ word. IsEncoded code.now len (symbols_of len code.now.k source.now) word) }
 {
-    let count = code.n() as usize;
-    let len = len as usize;
-    let mut bytes = with_zeros(alloc, source, count * len)?;
+    let mut symbols = Arena::new(alloc, code.n(), len)?;
+    let mut columns = Vec::with_capacity(alloc, code.n() as usize)?;
     let mut steps = Steps::<Tally>::start();
-    fill_repair(code, len, &mut bytes, &mut steps);
-    Ok(Coded { count, len, bytes })
+    put_source(source, code.k(), len as usize, &mut symbols);
+    fill_repair(code, &mut columns, &mut symbols, &mut steps);
+    Ok(Coded { symbols })
 }
 
-// The bytes, and zero bytes behind them up to the size.
-fn with_zeros(alloc: Global, bytes: &[u8], size: usize) -> Result<Vec<u8>, NoMemory>
-    requires { length bytes.now ≤ size }
-    ensures { IfOk result (λ all. all.items ≡ bytes.now ++ replicate (size - length bytes.now) 0) }
+// Puts the k source symbols, which lie one after the other, in front.
+fn put_source(source: &[u8], k: u32, len: usize, symbols: &mut Arena)
+    requires source { length source.now ≡ k * len }
+    requires count { k ≤ length symbols.old }
+    requires each { All (λ symbol. length symbol ≡ len) symbols.old }
+    ensures { symbols.new ≡ symbols_of len k source.now ++ drop k symbols.old }
 {
-    let mut all = Vec::with_capacity(alloc, size)?;
-    all.extend_from_slice(bytes)?;
-    all.resize(size, 0)?;
-    Ok(all)
+    for e in 0..k {
+        let start = e as usize * len;
+        symbols.put(e, &source[start..start + len]);
+    }
 }
 
 // Fills the repair symbols, which are zero, behind the source symbols.
-fn fill_repair<L: Ledger>(code: &Code, len: usize, bytes: &mut [u8], steps: &mut Steps<L>)
-    requires some { 1 ≤ len }
-    requires most { len ≤ 65535 }
-    requires room { length bytes.old ≡ code.now.n * len }
-    requires zero { drop (code.now.k * len) bytes.old ≡ replicate ((code.now.n - code.now.k) * len) 0 }
-    ensures { IsEncoded code.now len
-        (symbols_of len code.now.k bytes.old) (symbols_of len code.now.n bytes.new) }
+fn fill_repair<L: Ledger>(
+    code: &Code,
+    columns: &mut Vec<u32>,
+    symbols: &mut Arena,
+    steps: &mut Steps<L>,
+)
+    requires count { length symbols.old ≡ code.now.n }
+    requires room { code.now.n ≤ vec_capacity columns.old }
+    ensures { (len : ℕ) (source : List (List ℕ)) → length source ≡ code.now.k
+        → All (IsSymbol len) source
+        → symbols.old ≡ source ++ replicate (code.now.n - code.now.k) (zero_symbol len)
+        → IsEncoded code.now len source symbols.new }
 {
-    let k = code.k();
-    for r in 0..code.n() - k {
-        let (known, rest) = bytes.split_at_mut((k + r) as usize * len);
-        add_row(code, r, len, known, &mut rest[..len], steps);
+    for r in 0..code.n() - code.k() {
+        add_row(code, r, columns, symbols, steps);
     }
 }
 
-// Adds up row r into `sum`, which is zero, from the symbols before the row's own repair symbol.
+// Adds up row r into the row's own repair symbol, which is zero, from the symbols before it.
 fn add_row<L: Ledger>(
     code: &Code,
     r: u32,
-    len: usize,
-    known: &[u8],
-    sum: &mut [u8],
+    columns: &mut Vec<u32>,
+    symbols: &mut Arena,
     steps: &mut Steps<L>,
 )
-    requires code { IsCode code.now }
     requires row { r < code.now.n - code.now.k }
-    requires known { length known.now ≡ (code.now.k + r) * len }
-    requires zero { sum.old ≡ zero_symbol len }
-    ensures { sum.new
-        ≡ xor_sum len (symbol_at len (symbols_of len (code.now.k + r) known.now)) (row_of code.now r) }
+    requires count { length symbols.old ≡ code.now.n }
+    requires room { code.now.n ≤ vec_capacity columns.old }
+    ensures count { length symbols.new ≡ length symbols.old }
+    ensures room { vec_capacity columns.new ≡ vec_capacity columns.old }
+    ensures sum { (len : ℕ) → All (IsSymbol len) symbols.old
+        → slice_index_or symbols.old (code.now.k + r) [] ≡ zero_symbol len
+        → symbols.new ≡ slice_set symbols.old (code.now.k + r)
+        (xor_sum len (symbol_at len symbols.old) (row_of code.now r)) }
 {
-    // The last column of the row is that of the repair symbol itself.
+    read_before(code, r, columns, steps);
+    symbols.add_all(code.k() + r, columns.as_slice(), steps);
+}
+
+// Reads the columns of row r before the last one, which is that of the repair symbol itself.
+fn read_before<L: Ledger>(code: &Code, r: u32, columns: &mut Vec<u32>, steps: &mut Steps<L>)
+    requires row { r < code.now.n - code.now.k }
+    requires room { code.now.n ≤ vec_capacity columns.old }
+    ensures columns { columns.new.items
+        ≡ take (length (row_of code.now r) - 1) (row_of code.now r) }
+    ensures room { vec_capacity columns.new ≡ vec_capacity columns.old }
+{
+    // The code has a shape, which the bound of the loop rests on.
+    prove!(code.k() <= code.n());
+    columns.clear();
     for i in 0..code.row_len(r) - 1 {
-        let column = code.row_entry(r, i, steps);
-        xor_into(sum, symbol_at(known, len, column as usize));
-    }
-}
-
-// The i-th of the symbols that lie one after the other.
-fn symbol_at(bytes: &[u8], len: usize, i: usize) -> &[u8]
-    requires { i * len + len ≤ length bytes.now }
-    ensures { result.now ≡ take len (drop (i * len) bytes.now) }
-{
-    let start = i * len;
-    &bytes[start..start + len]
-}
-
-// Adds a symbol to another.
-pub(crate) fn xor_into(dst: &mut [u8], src: &[u8])
-    requires { length dst.old ≡ length src.now }
-    ensures { dst.new ≡ xor dst.old src.now }
-{
-    for i in 0..dst.len() {
-        dst[i] ^= src[i];
+        columns.push_reserved(code.row_entry(r, i, steps));
     }
 }

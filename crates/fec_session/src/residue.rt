@@ -1,17 +1,19 @@
 // The equations that peeling leaves.
-ghost use Rattle.std.specs.Prelude.{◌≡◌, ◌≤◌, ◌<◌, ◌-◌, ◌+◌, ℕ, List, All, length, map, filter, count_by, replicate, IfOk, OnOk, []};
+ghost use Rattle.std.specs.Prelude.{◌≡◌, ◌≤◌, ◌<◌, ◌-◌, ◌+◌, ℕ, List, All, length, map, filter};
+ghost use Rattle.std.specs.Prelude.{count_by, replicate, IfOk, []};
 ghost use Rattle.std.specs.List.{range_with_len};
 ghost use Rattle.sparse_rows.specs.Matrix.{row_of};
 ghost use Rattle.sparse_rows.specs.Closure.{flagged};
 ghost use Rattle.peeling.specs.Decoder.{IsDecoder};
 ghost use Rattle.gauss.specs.Equations.{equation_at, no_equation, with_equation};
-ghost use Rattle.fec_session.specs.Residue.{equation_of, is_open, place, residue, unknown_columns, with_unknowns};
+ghost use Rattle.fec_session.specs.Residue.{equation_of, is_open, place, residue, unknown_columns};
+ghost use Rattle.fec_session.specs.Residual.{with_unknowns};
 
 use crate::Core;
-use crate::encode::xor_into;
 use fec_base::{NoMemory, Steps, Tally};
 use gauss::Equations;
 use std::alloc::Global;
+use xor_lanes::xor_into;
 
 // The columns whose symbol isn't known, in rising order.
 pub(crate) fn unknown_columns(alloc: Global, core: &Core) -> Result<Vec<u32>, NoMemory>
@@ -28,7 +30,8 @@ pub(crate) fn unknown_columns(alloc: Global, core: &Core) -> Result<Vec<u32>, No
 
 // For each column its place among those whose symbol isn't known: how many of them are below it.
 fn places(alloc: Global, core: &Core) -> Result<Vec<u32>, NoMemory>
-    ensures { IfOk result (λ places. places.items ≡ map (place core.now) (range_with_len 0 core.now.matrix.n)) }
+    ensures { IfOk result
+        (λ places. places.items ≡ map (place core.now) (range_with_len 0 core.now.matrix.n)) }
 {
     let n = core.code().n();
     let mut places = Vec::with_capacity(alloc, n as usize)?;
@@ -50,7 +53,7 @@ pub(crate) fn residue(alloc: Global, core: &Core, unknowns: u32) -> Result<Equat
     let places = places(alloc, core)?;
     let mut sum = vec![in alloc; 0u8; core.symbol_len() as usize]?;
     let mut eqs = Equations::new(alloc, unknowns, count_open(core), core.symbol_len())?;
-    put_rows(core, &places, &mut eqs, &mut sum)?;
+    put_rows(core, &places, &mut eqs, &mut sum);
     Ok(eqs)
 }
 
@@ -87,52 +90,46 @@ fn is_open(core: &Core, row: u32) -> bool
 }
 
 // Makes each row with an unknown column the next equation.
-fn put_rows(
-    core: &Core,
-    places: &[u32],
-    eqs: &mut Equations,
-    sum: &mut [u8],
-) -> Result<(), NoMemory>
+fn put_rows(core: &Core, places: &[u32], eqs: &mut Equations, sum: &mut [u8])
     requires places { places.now ≡ map (place core.now) (range_with_len 0 core.now.matrix.n) }
-    requires eqs { eqs.old ≡ record { unknowns = length (unknown_columns core.now); len = core.now.len; equations = replicate (count_by (is_open core.now) core.now.matrix.rows) (no_equation core.now.len) } }
+    requires eqs { eqs.old ≡ record {
+      unknowns = length (unknown_columns core.now);
+      len = core.now.len;
+      equations = replicate (count_by (is_open core.now) core.now.matrix.rows)
+          (no_equation core.now.len);
+    } }
     requires sum { length sum.old ≡ core.now.len }
-    ensures { OnOk result (eqs.new ≡ residue core.now) }
+    ensures { eqs.new ≡ residue core.now }
 {
     let mut r = 0;
     for row in 0..core.code().n() - core.code().k() {
         if is_open(core, row) {
-            put_unknowns(core, row, places, eqs, r)?;
+            put_unknowns(core, row, places, eqs, r);
             sum_known(core, row, sum);
             eqs.set_sum(r, sum);
             r += 1;
         }
     }
-    Ok(())
 }
 
 // Puts the places of the row's unknown columns into equation r, which has none.
-fn put_unknowns(
-    core: &Core,
-    row: u32,
-    places: &[u32],
-    eqs: &mut Equations,
-    r: u32,
-) -> Result<(), NoMemory>
+fn put_unknowns(core: &Core, row: u32, places: &[u32], eqs: &mut Equations, r: u32)
     requires row { row < core.now.matrix.n - core.now.matrix.k }
     requires places { places.now ≡ map (place core.now) (range_with_len 0 core.now.matrix.n) }
     requires unknowns { eqs.old.unknowns ≡ length (unknown_columns core.now) }
     requires equation { r < length eqs.old.equations }
     requires empty { (equation_at eqs.old r).unknowns ≡ [] }
-    ensures { OnOk result (eqs.new ≡ with_equation eqs.old r (with_unknowns (equation_of core.now (row_of core.now.matrix row)).unknowns (equation_at eqs.old r))) }
+    ensures { eqs.new ≡ with_equation eqs.old r
+        (with_unknowns (equation_of core.now (row_of core.now.matrix row)).unknowns
+        (equation_at eqs.old r)) }
 {
     let mut steps = Steps::<Tally>::start();
     for i in 0..core.code().row_len(row) {
         let column = core.code().row_entry(row, i, &mut steps);
         if core.symbol(column).is_none() {
-            eqs.add_column(r, places[column as usize])?;
+            eqs.add_column(r, places[column as usize]);
         }
     }
-    Ok(())
 }
 
 // Makes `sum` the sum of the row's known symbols.

@@ -1,4 +1,5 @@
-ghost use Rattle.std.specs.Prelude.{◌≡◌, ◌<◌, ◌≤◌, ◌-◌, nat_lt, replicate, fold, [], length, IsTrue, IfOk};
+ghost use Rattle.std.specs.Prelude.{◌≡◌, ◌<◌, ◌≤◌, ◌-◌, nat_lt, replicate, fold, [], length};
+ghost use Rattle.std.specs.Prelude.{IsTrue, IfOk};
 ghost use Rattle.std.specs.List.{list_all};
 ghost use Rattle.sparse_rows.specs.Matrix.{HasShape, with_entry};
 
@@ -9,7 +10,7 @@ use std::alloc::Global;
 use std::test::Fail;
 
 // The entries of the rows {0, 2, 3}, {1, 2, 3, 4}, {0, 1, 2, 4, 5} and {0, 1, 5, 6}.
-const STAIRCASE: [(u32, u32); 16] = [
+pub(crate) const STAIRCASE: [(u32, u32); 16] = [
     (0, 0),
     (0, 2),
     (0, 3),
@@ -60,14 +61,21 @@ fn without_rows_the_codeword_is_the_source(rt: HostRuntime) -> Result<(), Fail> 
 }
 
 // The code with these entries.
-fn code_of(alloc: Global, k: u32, n: u32, entries: &[(u32, u32)]) -> Result<Code, NoMemory>
+pub(crate) fn code_of(
+    alloc: Global,
+    k: u32,
+    n: u32,
+    entries: &[(u32, u32)],
+) -> Result<Code, NoMemory>
     requires some { 1 ≤ k }
     requires within { k ≤ n }
     requires most { n ≤ 65536 }
     requires rows { IsTrue (list_all (λ entry. nat_lt entry.0 (n - k)) entries.now) }
     requires columns { IsTrue (list_all (λ entry. nat_lt entry.1 n) entries.now) }
-    requires shape { HasShape (fold (λ m entry. with_entry m entry.0 entry.1) (record { k = k; n = n; rows = replicate (n - k) [] }) entries.now) }
-    ensures { IfOk result (λ code. code ≡ fold (λ m entry. with_entry m entry.0 entry.1) (record { k = k; n = n; rows = replicate (n - k) [] }) entries.now) }
+    requires shape { HasShape (fold (λ m entry. with_entry m entry.0 entry.1)
+        (record { k = k; n = n; rows = replicate (n - k) [] }) entries.now) }
+    ensures { IfOk result (λ code. code ≡ fold (λ m entry. with_entry m entry.0 entry.1)
+        (record { k = k; n = n; rows = replicate (n - k) [] }) entries.now) }
 {
     let mut rows = RowsBuilder::new(alloc, k, n)?;
     for (r, c) in entries {

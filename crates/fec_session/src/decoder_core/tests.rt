@@ -1,36 +1,105 @@
-ghost use Rattle.std.specs.Prelude.{◌≡◌, [], ◌∷◌, IfOk};
+ghost use Rattle.std.specs.Prelude.{◌≡◌, IfOk};
 
-use crate::{Arrival, Core};
-use fec_base::{NoMemory, Steps, Tally};
-use sparse_rows::{Code, RowsBuilder};
+use crate::fixtures::{check_source, core_with, take, take_all};
+use crate::{Arrival, Core, Verdict};
+use fec_base::NoMemory;
 use std::alloc::Global;
+use std::process::Abort;
 use std::test::Fail;
 
 #[test]
 fn rebuilds_the_symbol_that_is_lost(rt: HostRuntime) -> Result<(), Fail> {
-    let code = single_parity(rt.alloc())?;
-    let mut decoder = Core::new(rt.alloc(), code, 2).map_err(|refused| refused.1)?;
-    let mut steps = Steps::<Tally>::start();
-    assert_eq!(rt; decoder.arrive(0, &[1, 2], &mut steps), Arrival::Fresh);
-    assert_eq!(rt; decoder.arrive(2, &[5, 7], &mut steps), Arrival::Fresh);
-    assert_eq!(rt; decoder.fresh(), [1].as_slice());
-    assert_eq!(rt; decoder.symbol(1), Some([4, 5].as_slice()));
-    assert!(rt; decoder.has_all_source());
-    assert!(rt; !decoder.clashed());
-    assert_eq!(rt; decoder.arrived(), [true, false, true].as_slice());
-    assert_eq!(rt; decoder.arrived_count(), 2);
-    assert_eq!(rt; decoder.known_count(), 3);
-    assert_eq!(rt; decoder.code().n(), 3);
+    let mut core = core_with(rt.alloc(), &[(0, 1)])?;
+    assert_eq!(rt; take(&mut core, 2, 4), Arrival::Fresh);
+    assert_eq!(rt; core.fresh(), [3].as_slice());
+    assert_eq!(rt; core.symbol(3), Some([5].as_slice()));
+    assert_eq!(rt; core.symbol(1), None);
+    assert_eq!(rt;
+        core.arrived(),
+        [true, false, true, false, false, false, false].as_slice()
+    );
+    assert_eq!(rt; core.arrived_count(), 2);
+    assert_eq!(rt; core.known_count(), 3);
+    assert_eq!(rt; core.code().n(), 7);
     Ok(())
 }
 
-// Two source symbols and their sum.
-fn single_parity(alloc: Global) -> Result<Code, NoMemory>
-    ensures { IfOk result (λ code. code ≡ record { k = 2; n = 3; rows = (0 ∷ 1 ∷ 2 ∷ []) ∷ [] }) }
+#[test]
+fn elimination_gives_what_peeling_leaves(rt: HostRuntime) -> Result<(), Fail> {
+    let core = core_with(rt.alloc(), &[(3, 5), (4, 3), (5, 4), (6, 7)])?;
+    assert!(rt; !core.has_all_source());
+    match core.finish(rt.alloc()).map_err(|refused| refused.1)? {
+        Verdict::Block(block) => check_source(&rt, &block, false),
+        _ => panic!(rt; "not determined"),
+    }
+    Ok(())
+}
+
+#[test]
+fn an_undetermined_core_goes_on(rt: HostRuntime) -> Result<(), Fail> {
+    let core = core_with(rt.alloc(), &[])?;
+    let mut core = check_open(&rt, rt.alloc(), core, &[0, 1, 3])?;
+    take_all(&mut core, &[(3, 5)]);
+    let mut core = check_open(&rt, rt.alloc(), core, &[0, 2, 4, 5])?;
+    take_all(&mut core, &[(4, 3)]);
+    let mut core = check_open(&rt, rt.alloc(), core, &[0, 1, 2, 5, 6])?;
+    take_all(&mut core, &[(0, 1)]);
+    match core.finish(rt.alloc()).map_err(|refused| refused.1)? {
+        Verdict::Block(block) => check_source(&rt, &block, true),
+        _ => panic!(rt; "not determined"),
+    }
+    Ok(())
+}
+
+#[test]
+fn contradictions_leave_no_codeword(rt: HostRuntime) -> Result<(), Fail> {
+    // The arrivals, and whether peeling sees the contradiction.
+    let cases: [(&[(u32, u8)], bool); 5] = [
+        (&[(3, 5), (3, 6)], true),
+        (&[(3, 5), (4, 3), (0, 1), (1, 3)], true),
+        (&[(0, 1), (1, 2), (4, 4)], false),
+        (&[(0, 1), (1, 2), (4, 4), (3, 5)], true),
+        (&[(3, 5), (4, 3), (5, 4), (6, 6)], false),
+    ];
+    for (arrivals, clashed) in cases {
+        let core = core_with(rt.alloc(), arrivals)?;
+        check_none(&rt, rt.alloc(), core, clashed)?;
+    }
+    Ok(())
+}
+
+#[test]
+fn a_contradicted_core_goes_on(rt: HostRuntime) -> Result<(), Fail> {
+    let core = core_with(rt.alloc(), &[(0, 1), (1, 2), (4, 4)])?;
+    let mut core = check_none(&rt, rt.alloc(), core, false)?;
+    assert_eq!(rt; take(&mut core, 3, 5), Arrival::Fresh);
+    assert_eq!(rt; core.fresh(), [2, 5, 6].as_slice());
+    assert_eq!(rt; core.known_count(), 7);
+    assert_eq!(rt; take(&mut core, 3, 6), Arrival::Repeat { same: false });
+    check_none(&rt, rt.alloc(), core, true)?;
+    Ok(())
+}
+
+// No codeword fits what arrived at the core, which peeling sees or not. It is given back.
+fn check_none(rt: &impl Abort, alloc: Global, core: Core, clashed: bool) -> Result<Core, NoMemory>
+    ensures { IfOk result (λ back. back ≡ core) }
 {
-    let mut rows = RowsBuilder::new(alloc, 2, 3)?;
-    rows.insert(0, 0)?;
-    rows.insert(0, 1)?;
-    rows.insert(0, 2)?;
-    Code::from_builder(alloc, rows)
+    assert_eq!(rt; core.clashed(), clashed);
+    match core.finish(alloc).map_err(|refused| refused.1)? {
+        Verdict::NoCodeword(core) => Ok(core),
+        _ => panic!(rt; "some codeword fits"),
+    }
+}
+
+// What arrived at the core leaves the source open, as this null word shows. It is given back.
+fn check_open(rt: &impl Abort, alloc: Global, core: Core, word: &[u32]) -> Result<Core, NoMemory>
+    ensures { IfOk result (λ back. back ≡ core) }
+{
+    match core.finish(alloc).map_err(|refused| refused.1)? {
+        Verdict::Undetermined(core, found) => {
+            assert_eq!(rt; found.positions(), word);
+            Ok(core)
+        }
+        _ => panic!(rt; "not undetermined"),
+    }
 }

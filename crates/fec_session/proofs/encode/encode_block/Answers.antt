@@ -1,17 +1,18 @@
-use Rattle.std.proofs.Common.{◌≡◌, ◌∙◌, ◌++◌, ◌*◌, ◌-◌, ℕ, List, length, drop, take, replicate, sym, subst, arith}
-use Rattle.std.proofs.Math.Seq.{take_at}
-use Rattle.sparse_rows.specs.Symbol.{symbols_of}
-use Rattle.sparse_rows.specs.Codeword.{IsEncoded}
-use Rattle.fec_session.proofs.Filled.{encoded_padded}
+use Rattle.std.proofs.Common.{ℕ, arith}
+use Rattle.fec_base.specs.Symbol.{symbols_of}
+use Rattle.sparse_rows.proofs.Symbols.{length_symbols, symbols_are}
+use Rattle.fec_session.proofs.Filled.{source_alone}
+use Rattle.fec_session.proofs.Rows.{bytes_small}
 use Rattle.fec_session.proofs.encode.encode_block.Goals as goal
+
+pub fill_repair-requires-clause-count : goal.fill_repair-requires-clause-count
+fill_repair-requires-clause-count c =
+    let m = c.args.code.now in
+    (source_alone m c.k.ensures.code c.args.len c.args.source.now c.in_ok-symbols.symbols c.put_source.new.symbols c.n.result c.k.result c.n.ensures.value c.k.ensures.value c.in_ok-symbols.ensures c.put_source.ensures).0
 
 pub returns : goal.returns
 returns c =
-    let m = c.args.code.now in
-    let new = c.fill_repair.new.bytes in
-    let vector = c.in_ok-bytes.bytes in
-    let refilled : take vector.len (new ++ drop (length new) vector.items) ≡ new =
-    take_at new (drop (length new) vector.items) vector.len (omega (arith, c.fill_repair.auto.bytes, c.deref_mut.ensures.len)) in
-    subst (λ (bytes : List ℕ). IsEncoded m c.args.len (symbols_of c.args.len m.k c.args.source.now) (symbols_of c.args.len c.n-count.result bytes)) (sym refilled)
-    (encoded_padded m c.args.len c.args.source.now (replicate (c.n-count.result * c.args.len - length c.args.source.now) 0) c.deref_mut.result.now new c.n-count.result c.requires.source
-    (c.deref_mut.ensures.value ∙ c.in_ok-bytes.ensures) c.n-count.ensures.value c.fill_repair.ensures)
+    let m = c.args.code.now in let len : ℕ = c.args.len in
+    c.fill_repair.ensures len (symbols_of len m.k c.args.source.now) (length_symbols len m.k c.args.source.now)
+    (symbols_are len m.k c.args.source.now (omega (arith, c.requires.source)) (bytes_small c.args.source.now c.type_inv.source))
+    (source_alone m c.k.ensures.code len c.args.source.now c.in_ok-symbols.symbols c.put_source.new.symbols c.n.result c.k.result c.n.ensures.value c.k.ensures.value c.in_ok-symbols.ensures c.put_source.ensures).1

@@ -1,12 +1,13 @@
-use Rattle.std.proofs.Common.{◌≡◌, ◌+◌, ◌*◌, ◌-◌, ◌<◌, All, length, take, drop, replicate}
-use Rattle.sparse_rows.specs.Symbol.{symbols_of}
-use Rattle.sparse_rows.proofs.Encode.{extend}
+use Rattle.std.proofs.Common.{◌≡◌, ◌++◌, ◌-◌, ℕ, List, All, length, replicate}
+use Rattle.std.specs.Vec.{vec_capacity}
+use Rattle.fec_base.specs.Symbol.{IsSymbol, zero_symbol}
+use Rattle.fec_session.proofs.Filled.{filled}
 use Rattle.fec_session.proofs.encode.fill_repair.Given as goal
 
 abbrev pub invariant-loop-r : goal.invariant-loop-r
 invariant-loop-r g l = record {
-  long : length l.bytes ≡ length l.initial.bytes;
-  word : symbols_of l.len (l.code.k + l.r) l.bytes ≡ extend l.len (take l.r l.code.rows) (symbols_of l.len l.code.k l.initial.bytes);
-  small : All (λ b. b < 256) l.initial.bytes;
-  zero : drop ((l.code.k + l.r) * l.len) l.bytes ≡ replicate ((l.code.n - (l.code.k + l.r)) * l.len) 0;
+  room : vec_capacity l.columns ≡ vec_capacity l.initial.columns;
+  count : length l.symbols ≡ length l.initial.symbols;
+  word : (len : ℕ) (source : List (List ℕ)) → length source ≡ l.code.k → All (IsSymbol len) source
+      → l.initial.symbols ≡ source ++ replicate (l.code.n - l.code.k) (zero_symbol len) → l.symbols ≡ filled l.code len source l.r;
 }

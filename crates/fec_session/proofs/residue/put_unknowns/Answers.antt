@@ -3,12 +3,13 @@ use Rattle.std.proofs.lemmas.List.{map-append}
 use Rattle.sparse_rows.specs.Matrix.{row_of}
 use Rattle.sparse_rows.specs.Closure.{flagged, outside}
 use Rattle.gauss.specs.Equations.{equation_at, with_equation}
-use Rattle.fec_session.specs.Residue.{place, with_unknowns}
+use Rattle.fec_session.specs.Residue.{place}
+use Rattle.fec_session.specs.Residual.{with_unknowns}
 use Rattle.fec_session.proofs.Places.{rank_below}
 use Rattle.fec_session.proofs.Opened.{IsRead, is_read, pass_yes, pass_no, unknown_is, places_long, place_at, places_before}
 use Rattle.fec_session.proofs.Assembled.{more_unknown, unknowns_are, all_below_same}
 use Rattle.fec_session.proofs.residue.put_unknowns.Goals as goal
-use Rattle.fec_session.proofs.residue.put_unknowns.Goals.{then-is_none+in_ok-add_column, else-is_none}
+use Rattle.fec_session.proofs.residue.put_unknowns.Goals.{then-is_none, else-is_none}
 
 pub symbol-requires : goal.symbol-requires
 symbol-requires c =
@@ -58,7 +59,7 @@ loop-i-preserved c =
     let before : List ℕ = outside (flagged d.known) (take c.loop-i.i (row_of d.matrix c.args.row)) in
     let eqs = c.args.eqs.now in
     elim c.if-is_none.branch [
-      | then-is_none+in_ok-add_column w ↦ more_unknown eqs c.loop-i.eqs c.if-is_none.eqs c.args.r (map (place d) before) (get_or c.args.places.now column 0) c.requires.equation c.loop-i.invariant (w.eqs-is ∙ w.in_ok-add_column.ensures.ok)
+      | then-is_none w ↦ more_unknown eqs c.loop-i.eqs c.if-is_none.eqs c.args.r (map (place d) before) (get_or c.args.places.now column 0) c.requires.equation c.loop-i.invariant (w.eqs-is ∙ w.add_column.ensures)
           ∙ ap (λ (us : List ℕ). with_equation eqs c.args.r (with_unknowns us (equation_at eqs c.args.r)))
           (ap (λ (p : ℕ). map (place d) before ++ p ∷ []) (place_at d c.args.places.now c.requires.places column read.below) ∙ sym (map-append (place d) before (column ∷ []))
           ∙ ap (map (place d)) (sym (pass_yes d c.args.row c.loop-i.i column read (λ b. not (flagged d.known b)) (unknown ∙ w.if-is_none.true))))

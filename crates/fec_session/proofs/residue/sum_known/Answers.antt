@@ -1,6 +1,6 @@
 use Rattle.std.proofs.Common.{◌∙◌, ap, sym, refl}
 use Rattle.std.proofs.lemmas.Bool.{false_from_ne_true}
-use Rattle.sparse_rows.specs.Symbol.{xor_sum}
+use Rattle.fec_base.specs.Symbol.{xor_sum}
 use Rattle.sparse_rows.specs.Closure.{flagged}
 use Rattle.peeling.specs.Decoder.{kept}
 use Rattle.fec_session.proofs.Opened.{IsRead, is_read, pass_no, sum_known}

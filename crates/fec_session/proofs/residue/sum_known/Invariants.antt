@@ -1,5 +1,5 @@
 use Rattle.std.proofs.Common.{◌≡◌, take, filter}
-use Rattle.sparse_rows.specs.Symbol.{xor_sum}
+use Rattle.fec_base.specs.Symbol.{xor_sum}
 use Rattle.sparse_rows.specs.Matrix.{row_of}
 use Rattle.sparse_rows.specs.Closure.{flagged}
 use Rattle.peeling.specs.Decoder.{kept}

@@ -1,0 +1,34 @@
+// Laws over the definitions alone.
+ghost use Rattle.fec_session.specs.Forced.{RebuiltAreForced};
+ghost use Rattle.fec_session.specs.Laws.{ArrivalsDecideOutcome, OutcomeIsOne};
+ghost use Rattle.fec_session.specs.Pairing.{CodewordsPairWithSolutions};
+
+use null_witness::null_words_follow_the_closure;
+use peeling::kept_symbols_are_forced;
+
+/// What a decoder rebuilds at an arrival is decided by the arrivals: the positions are the new
+/// members of the closure of what arrived, and their bytes are those of each codeword that fits.
+pub fn rebuilt_symbols_are_forced()
+    ensures { RebuiltAreForced }
+{
+    kept_symbols_are_forced();
+}
+
+/// Where a decoder stands for its arrivals and isn't clashed, the codewords that fit them pair one
+/// to one with the solutions of the equations that peeling leaves.
+pub fn codewords_pair_with_solutions()
+    ensures { CodewordsPairWithSolutions }
+{}
+
+/// Arrivals determine one outcome at most: one source, one null word, and whether peeling alone
+/// gave the source.
+pub fn outcome_is_one()
+    ensures { OutcomeIsOne }
+{
+    null_words_follow_the_closure();
+}
+
+/// The outcome depends on the set of arrivals alone, and neither on their order nor on repeats.
+pub fn arrivals_decide_outcome()
+    ensures { ArrivalsDecideOutcome }
+{}
