@@ -1,4 +1,5 @@
--- The code of a source block of a file. Which code a codec builds is told apart here, and nowhere above.
+-- The code of a source block of a file. Which code a codec builds is told apart here, and nowhere
+-- above.
 use Rattle.std.specs.Prelude.{ℕ, ◌+◌, ◌-◌, ◌*◌, Option, Some, None}
 use Rattle.parity_2d.specs.Grid.{grid_matrix}
 use Rattle.staircase.specs.Staircase.{CountedMatrix, staircase_matrix}
@@ -23,11 +24,14 @@ draw_limit h draws k = limit_by draws (row_weight h) k (symbol_count h k)
 
 -- the matrix that a codec gives a block of k source symbols
 abbrev pub matrix_by : Codec → HeaderFields → Option ℕ → ℕ → Option CountedMatrix
-matrix_by Staircase h draws k = staircase_matrix k (symbol_count h k) (row_weight h) h.oti.seed (draw_limit h draws k)
-matrix_by Triangle h draws k = triangle_matrix k (symbol_count h k) (row_weight h) h.oti.seed (draw_limit h draws k)
+matrix_by Staircase h draws k = staircase_matrix k (symbol_count h k) (row_weight h) h.oti.seed
+    (draw_limit h draws k)
+matrix_by Triangle h draws k = triangle_matrix k (symbol_count h k) (row_weight h) h.oti.seed
+    (draw_limit h draws k)
 matrix_by Parity2d h draws k = Some (record { matrix = grid_matrix k h.oti.seed; draws = 0 })
 
--- the matrix of a block of k source symbols of the file, and how many draws it takes; none where those are more than there may be
+-- the matrix of a block of k source symbols of the file, and how many draws it takes; none where
+-- those are more than there may be
 abbrev pub block_matrix : HeaderFields → Option ℕ → ℕ → Option CountedMatrix
 block_matrix h draws k = matrix_by h.codec h draws k
 

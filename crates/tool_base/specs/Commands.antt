@@ -32,11 +32,14 @@ encode_options =
     ∷ takes (codes "draws") (Number 0 4294967295)
     ∷ []
 
--- the `encode` that is given; none where the codec excludes an option, or the number of encoding symbols is out of its range
+-- the `encode` that is given; none where the codec excludes an option, or the number of encoding
+-- symbols is out of its range
 abbrev pub encode_of : Given → Option Command
 encode_of given =
     let block = number_or (codes "block") 1 65536 1000 given in
-    option_and_then (λ shape. option_map (λ max_n. command.Encode shape (number_or (codes "symbol") 1 65535 1024 given) block max_n)
+    option_and_then
+    (λ shape. option_map
+    (λ max_n. command.Encode shape (number_or (codes "symbol") 1 65535 1024 given) block max_n)
     (symbols_of (codes "max-n") shape block given)) (shape_of (codes "max-n") given)
 
 -- the options of `decode`
@@ -49,7 +52,8 @@ decode_options =
 
 -- the `decode` that is given
 abbrev pub decode_of : Given → Command
-decode_of given = command.Decode (number_given (codes "draws") 0 4294967295 given) (is_yes (codes "early") given)
+decode_of given = command.Decode (number_given (codes "draws") 0 4294967295 given)
+    (is_yes (codes "early") given)
     (number_or (codes "packets") 0 16777216 16777216 given)
 
 -- the command that its first word names

@@ -1,5 +1,6 @@
 -- What the values that are given mean, and the defaults where none is given.
-use Rattle.std.specs.Prelude.{ℕ, Bool, ◌*◌, ◌/◌, ◌&&◌, List, [], ◌∷◌, Option, Some, None, min, codes, nat_le}
+use Rattle.std.specs.Prelude.{ℕ, Bool, ◌*◌, ◌/◌, ◌&&◌, List, [], ◌∷◌, Option, Some, None, min}
+use Rattle.std.specs.Prelude.{codes, nat_le}
 use Rattle.std.specs.Prelude.{if◌then◌else◌, option_and_then, unwrap_or, is_some, true, false}
 use Rattle.std.specs.Option.{option_map_or}
 use Rattle.std.specs.List.{list_any}
@@ -37,7 +38,8 @@ is_grid _ = false
 abbrev pub gives_any : List Text → Given → Bool
 gives_any names given = list_any (λ name. is_some (given name)) names
 
--- whether an option is given that the codec excludes; `most` names that of the number of encoding symbols
+-- whether an option is given that the codec excludes; `most` names that of the number of encoding
+-- symbols
 abbrev pub gives_excluded : Text → Given → Bool
 gives_excluded most given =
     if is_grid (codec_given given)
@@ -55,7 +57,8 @@ shape_of most given = if gives_excluded most given then None
       draws = number_given (codes "draws") 0 4294967295 given;
     })
 
--- the number of encoding symbols of k source symbols: that of the grid, or what is given, or half as many again, at most 65536
+-- the number of encoding symbols of k source symbols: that of the grid, or what is given, or half
+-- as many again, at most 65536
 abbrev pub symbols_wanted : Text → Shape → ℕ → Given → ℕ
 symbols_wanted most shape k given =
     if is_grid shape.codec then size_2d k shape.width

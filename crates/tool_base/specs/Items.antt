@@ -1,5 +1,6 @@
 -- The items that words make: each a name and a value, in one word or in two.
-use Rattle.std.specs.Prelude.{ℕ, Bool, not, ◌==◌, ◌&&◌, List, [], ◌∷◌, Option, Some, None, ◌++◌, find}
+use Rattle.std.specs.Prelude.{ℕ, Bool, not, ◌==◌, ◌&&◌, List, [], ◌∷◌, Option, Some, None, ◌++◌}
+use Rattle.std.specs.Prelude.{find}
 use Rattle.std.specs.Prelude.{if◌then◌else◌, codes, option_map, option_and_then, is_some, true}
 use Rattle.std.specs.List.{before_first, after_first, list_any}
 use Rattle.std.specs.Str.{bytes_eq}

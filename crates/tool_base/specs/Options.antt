@@ -1,5 +1,6 @@
 -- Tables of options: the name of each option, and the values that it takes.
-use Rattle.std.specs.Prelude.{Bool, ◌&&◌, ◌||◌, List, [], Option, Some, None, map, true, codes, is_some}
+use Rattle.std.specs.Prelude.{Bool, ◌&&◌, ◌||◌, List, [], Option, Some, None, map, true, codes}
+use Rattle.std.specs.Prelude.{is_some}
 use Rattle.std.specs.Prelude.{if◌then◌else◌, option_and_then}
 use Rattle.std.specs.List.{list_all}
 use Rattle.std.specs.Option.{option_map_or}
@@ -37,7 +38,8 @@ names_of options = map (λ o. o.name) options
 
 -- the value that is given for each option, if any, is one of its values
 abbrev pub values_fit : List CommandOption → List Item → Bool
-values_fit options items = list_all (λ o. option_map_or (is_value o.values) (value_of o.name items) true) options
+values_fit options items = list_all
+    (λ o. option_map_or (is_value o.values) (value_of o.name items) true) options
 
 -- the values that are given, by name
 abbrev pub Given : Type 0
@@ -47,10 +49,12 @@ Given = Text → Option Text
 abbrev pub given_by : List Item → Given
 given_by items name = value_of name items
 
--- what the words give of these options, where they are items of them, each option at most once and each with one of its values
+-- what the words give of these options, where they are items of them, each option at most once and
+-- each with one of its values
 abbrev pub options_given : List CommandOption → List Text → Option Given
 options_given options words = option_and_then (λ items.
-    if names_once (names_of options) [] items && values_fit options items then Some (given_by items) else None)
+    if names_once (names_of options) [] items && values_fit options items then Some
+    (given_by items) else None)
     (items_of words)
 
 -- the option of a row of the program's table

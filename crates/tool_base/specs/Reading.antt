@@ -18,7 +18,8 @@ is_plain text = not (is_some (after_hyphen text))
 abbrev pub has_plain : Item → Bool
 has_plain i = is_plain i.value
 
--- the matches are those of the items, each name at most once; there are none where some value looks like a flag, or the words are no such items
+-- the matches are those of the items, each name at most once; there are none where some value looks
+-- like a flag, or the words are no such items
 abbrev pub Matches : List Text → List Text → Option ArgMatches → Type 0
 Matches names words r = MatchOption r
     ((items : List Item) → items_of words ≡ Some items → names_once names [] items ≡ true

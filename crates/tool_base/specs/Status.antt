@@ -1,7 +1,10 @@
 -- The statuses of the program: their numbers and their texts.
 use Rattle.std.specs.Prelude.{ℕ, List, [], codes}
 use Rattle.tool_base.specs.declared.status.Status.{Status}
-use Rattle.tool_base.specs.declared.status.Status.TheVariants.{Done, Memory, Usage, ReadFault, WriteFault, Malformed, Draws, Limit, NoCodeword, Unbuilt, Stuck}
+use Rattle.tool_base.specs.declared.status.Status.TheVariants.{Done, Memory, Usage, ReadFault}
+use Rattle.tool_base.specs.declared.status.Status.TheVariants.{WriteFault, Malformed, Draws, Limit}
+use Rattle.tool_base.specs.declared.status.Status.TheVariants.{Undetermined, NoCodeword, WatchFault}
+use Rattle.tool_base.specs.declared.status.Status.TheVariants.{Unbuilt}
 
 -- the exit status
 abbrev pub code_of : Status → ℕ
@@ -13,20 +16,23 @@ code_of WriteFault = 4
 code_of Malformed = 5
 code_of Draws = 6
 code_of Limit = 7
+code_of Undetermined = 8
 code_of NoCodeword = 9
+code_of WatchFault = 10
 code_of Unbuilt = 11
-code_of Stuck = 12
 
 -- the report of a status that goes by nothing else
 abbrev pub fault_text : Status → List ℕ
 fault_text Done = []
 fault_text Memory = codes "fault: memory\n"
-fault_text Usage = codes "fault: usage\nusage: eperftool encode|decode|lose|show|perf [--name=value ...]\n"
+fault_text Usage = codes
+    "fault: usage\nusage: eperftool encode|decode|lose|show|perf [--name=value ...]\n"
 fault_text ReadFault = codes "fault: read\n"
 fault_text WriteFault = codes "fault: write\n"
 fault_text Malformed = []
 fault_text Draws = []
 fault_text Limit = []
+fault_text Undetermined = []
 fault_text NoCodeword = []
+fault_text WatchFault = codes "fault: watch\n"
 fault_text Unbuilt = codes "fault: unbuilt\n"
-fault_text Stuck = []

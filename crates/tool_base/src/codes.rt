@@ -12,9 +12,9 @@ use staircase::{BuildRefusal, Built, staircase};
 use std::alloc::Global;
 use triangle::triangle;
 
-/// The code of block i of a file, and how many draws its matrix took, 0 for a grid. The draws may be
-/// as many as are given, or else 64 for each of the N1*k + 2*(n - k) entries of the block and 65,536
-/// more. `DrawLimit` comes exactly where the matrix takes more.
+/// The code of block i of a file, and how many draws its matrix took, 0 for a grid. The draws may
+/// be as many as are given, or else 64 for each of the N1*k + 2*(n - k) entries of the block and
+/// 65,536 more. `DrawLimit` comes exactly where the matrix takes more.
 pub fn block_code(
     alloc: Global,
     h: &Header,
@@ -22,8 +22,11 @@ pub fn block_code(
     draws: Option<u32>,
 ) -> Result<Built, BuildRefusal>
     requires { i < length (source_counts h.now) }
-    ensures ok { IfOk result (λ built. block_matrix h.now draws (slice_index (source_counts h.now) i) ≡ Some (record { matrix = built.code; draws = built.draws })) }
-    ensures draw_limit { result ≡ Err BuildRefusal.DrawLimit → block_matrix h.now draws (slice_index (source_counts h.now) i) ≡ None }
+    ensures ok { IfOk result
+        (λ built. block_matrix h.now draws (slice_index (source_counts h.now) i)
+        ≡ Some (record { matrix = built.code; draws = built.draws })) }
+    ensures draw_limit { result ≡ Err BuildRefusal.DrawLimit
+        → block_matrix h.now draws (slice_index (source_counts h.now) i) ≡ None }
     ensures source { IfOk result (λ built. built.code.k ≡ slice_index (source_counts h.now) i) }
     ensures symbols { IfOk result (λ built. built.code.n ≡ block_symbols h.now i) }
 {

@@ -2,7 +2,8 @@
 ghost use Rattle.std.specs.Prelude.{◌≡◌, IfSome, map};
 ghost use Rattle.tool_base.specs.Options.{listed};
 ghost use Rattle.tool_base.specs.Reading.{given_of};
-ghost use Rattle.tool_base.specs.Commands.{IsInRange, decode_of, decode_options, encode_of, encode_options};
+ghost use Rattle.tool_base.specs.Commands.{IsInRange, decode_of, decode_options, encode_of};
+ghost use Rattle.tool_base.specs.Commands.{encode_options};
 
 use crate::given::{is_yes, number_given, number_or, shape_given, symbols_given};
 use crate::options::{OptionRow, ValueKind};

@@ -4,7 +4,9 @@ ghost use Rattle.parity_2d.specs.Grid.{size_2d};
 ghost use Rattle.oti_fields.specs.declared.codec.Codec.TheVariants.{Parity2d};
 ghost use Rattle.tool_base.specs.Reading.{given_of};
 ghost use Rattle.tool_base.specs.Commands.{IsShapeInRange};
-ghost use Rattle.tool_base.specs.Given.{codec_given, gives_any, gives_excluded, is_grid, is_yes, number_given, number_or, shape_of, symbols_of, symbols_wanted};
+ghost use Rattle.tool_base.specs.Given.{codec_given, gives_any, gives_excluded, is_grid, is_yes};
+ghost use Rattle.tool_base.specs.Given.{number_given, number_or, shape_of, symbols_of};
+ghost use Rattle.tool_base.specs.Given.{symbols_wanted};
 
 use crate::Shape;
 use crate::numbers::read_number;

@@ -92,15 +92,16 @@ pub fn read_options<'a>(
     }
 }
 
-// What clap finds of the options in the words after the first, whatever the values are. To clap `--`
-// ends the options, and here no word may be it.
+// What clap finds of the options in the words after the first, whatever the values are. To clap
+// `--` ends the options, and here no word may be it.
 fn find_options<'a>(
     alloc: Global,
     options: &[OptionRow],
     words: &'a [&'a str],
 ) -> Result<Option<ArgMatches<'a>>, NoMemory>
     requires { 0 < length words.now }
-    ensures { IfOk result (Matches (map (λ o. o.name.now) options.now) (drop 1 (map (λ w. w.now) words.entry.now))) }
+    ensures { IfOk result
+        (Matches (map (λ o. o.name.now) options.now) (drop 1 (map (λ w. w.now) words.entry.now))) }
 {
     if has_dashes(&words[1..]) {
         return Ok(None);
@@ -132,14 +133,18 @@ fn has_dashes(words: &[&str]) -> bool
 
 // Whether the value that is given for each option, if any, is one of its values.
 fn values_fit(options: &[OptionRow], matches: &ArgMatches) -> bool
-    ensures { result ≡ list_all (λ o. option_map_or (is_value o.values) (given_of matches.now o.name.now) true) options.now }
+    ensures { result
+        ≡ list_all (λ o. option_map_or (is_value o.values) (given_of matches.now o.name.now) true)
+        options.now }
 {
     options.iter().all(|option| value_fits(option, matches))
 }
 
 // Whether the value that is given for the option, if any, is one of its values.
 fn value_fits(option: &OptionRow, matches: &ArgMatches) -> bool
-    ensures { result ≡ option_map_or (is_value option.now.values) (given_of matches.now option.now.name.now) true }
+    ensures { result
+        ≡ option_map_or (is_value option.now.values) (given_of matches.now option.now.name.now)
+        true }
 {
     match matches.get_str(option.name) {
         Some(text) => option.values.has(text),

@@ -21,12 +21,14 @@ pub enum Status {
     Draws = 6,
     /// A size or a count passes its limit.
     Limit = 7,
-    /// No codeword fits the packets: they contradict one another.
+    /// Codewords of different source blocks fit the packets of some block.
+    Undetermined = 8,
+    /// No codeword fits the packets of some block: they contradict one another.
     NoCodeword = 9,
+    /// The watch failed.
+    WatchFault = 10,
     /// The words or the input ask for something that isn't built yet.
     Unbuilt = 11,
-    /// Peeling leaves a source symbol open.
-    Stuck = 12,
 }
 
 impl Status {
@@ -48,13 +50,14 @@ impl Status {
             }
             Status::ReadFault => "fault: read\n",
             Status::WriteFault => "fault: write\n",
+            Status::WatchFault => "fault: watch\n",
             Status::Unbuilt => "fault: unbuilt\n",
             Status::Done
             | Status::Malformed
             | Status::Draws
             | Status::Limit
-            | Status::NoCodeword
-            | Status::Stuck => "",
+            | Status::Undetermined
+            | Status::NoCodeword => "",
         }
     }
 }

@@ -251,9 +251,10 @@ fn statuses_have_their_numbers_and_texts(rt: HostRuntime) {
         (Status::Malformed, 5, ""),
         (Status::Draws, 6, ""),
         (Status::Limit, 7, ""),
+        (Status::Undetermined, 8, ""),
         (Status::NoCodeword, 9, ""),
+        (Status::WatchFault, 10, "fault: watch\n"),
         (Status::Unbuilt, 11, "fault: unbuilt\n"),
-        (Status::Stuck, 12, ""),
     ];
     for (status, code, text) in cases {
         assert_eq!(rt; status.code(), code);

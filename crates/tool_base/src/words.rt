@@ -67,7 +67,8 @@ fn read_command_word(word: &str) -> Option<CommandWord>
 // The command of this word, by the words after it.
 fn read_after(alloc: Global, word: CommandWord, words: &[&str]) -> Result<Option<Command>, NoMemory>
     requires { 0 < length words.now }
-    ensures value { IfOk result (λ found. found ≡ command_after (drop 1 (map (λ w. w.now) words.now)) word) }
+    ensures value { IfOk result (λ found. found
+        ≡ command_after (drop 1 (map (λ w. w.now) words.now)) word) }
     ensures in_range { IfOk result (λ found. IfSome found IsInRange) }
 {
     match word {
