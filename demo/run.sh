@@ -154,7 +154,7 @@ for codec in $codecs; do
     echo "    The output is the file, byte for byte (cmp)."
     echo "The first 120 packets are lost, so the first block has fewer left than it has source symbols:"
     echo "\$ eperftool decode < $codec-few > nothing"
-    show 12 "$codec-few"
+    show 8 "$codec-few"
     cmp /dev/null "$here/out/$codec-few"
     echo "    The output is empty."
 done

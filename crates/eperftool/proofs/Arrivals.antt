@@ -5,8 +5,9 @@ use Rattle.std.proofs.lemmas.List.Elements.{filter-append}
 use Rattle.sparse_rows.specs.Codeword.{Arrival}
 use Rattle.peeling.specs.Decoder.{Decoder}
 use Rattle.peeling.specs.Stands.{Receives, StandsFor}
-use Rattle.eperftool.specs.Received.{Packet, arrivals_of}
-use Rattle.eperftool.specs.Decoded.{StandForAll}
+use Rattle.eperftool.specs.Received.{arrivals_of}
+use Rattle.packet_file.specs.Packets.{Packet}
+use Rattle.eperftool.specs.Receiving.{StandForAll}
 
 abbrev arrival : Packet → Arrival
 arrival p = (p.0.esi, p.1)
@@ -18,7 +19,7 @@ arrivals_more b before more =
     ap (map arrival) (filter-append is_own before more) ∙ map-append arrival (filter is_own before) (filter is_own more)
 
 -- a packet arrives for its own block, and for no other
-arrivals_own : (b : ℕ) (p : Packet) → p.0.sbn == b ≡ true → arrivals_of b (p ∷ []) ≡ arrival p ∷ []
+pub arrivals_own : (b : ℕ) (p : Packet) → p.0.sbn == b ≡ true → arrivals_of b (p ∷ []) ≡ arrival p ∷ []
 arrivals_own b p own = ap (λ t. map arrival (cond t (p ∷ []) [])) own
 
 arrivals_other : (b : ℕ) (p : Packet) → p.0.sbn == b ≡ false → arrivals_of b (p ∷ []) ≡ []

@@ -14,12 +14,12 @@ module _ {X : Type 0} (f : X → List ℕ) (xs : List X) (i : ℕ) (x : X) (lt :
   after = flat_map f (drop (i + 1) xs)
 
   -- one block more
-  one_more : flat_map f (take (i + 1) xs) ≡ before ++ f x
+  pub one_more : flat_map f (take (i + 1) xs) ≡ before ++ f x
   one_more = ap (flat_map f) (take_more xs i x lt ∙ ap (λ (y : X). take i xs ++ y ∷ []) (sym is))
       ∙ flat_map-append f (take i xs) (x ∷ []) ∙ ap (λ (l : List ℕ). before ++ l) (append-nil (f x))
 
   -- and those behind
-  all_blocks : flat_map f xs ≡ before ++ (f x ++ after)
+  pub all_blocks : flat_map f xs ≡ before ++ (f x ++ after)
   all_blocks = ap (flat_map f) (sym (take-append-drop i xs) ∙ ap (λ (l : List X). take i xs ++ l) (drop_more xs i x lt ∙ ap (λ (y : X). y ∷ drop (i + 1) xs) (sym is)))
       ∙ flat_map-append f (take i xs) (x ∷ drop (i + 1) xs)
 

@@ -4,7 +4,8 @@ use Rattle.std.proofs.lemmas.List.Elements.{All-push, Contains-append_left}
 use Rattle.std.proofs.lemmas.List.Quantifiers.{Any-push}
 use Rattle.sparse_rows.specs.Matrix.{Matrix, IsCode}
 use Rattle.packet_file.specs.Header.{HeaderFields, source_counts, symbol_count}
-use Rattle.eperftool.specs.Codes.{AreCodes, AreMatrices, HasMatrix, HasSize, RefusesCode, RefusesCodes, count_at, matrix_of}
+use Rattle.eperftool.specs.BuiltCodes.{AreCodes, AreMatrices, HasSize, RefusesCode, RefusesCodes}
+use Rattle.eperftool.specs.Codes.{HasMatrix, count_at, matrix_of}
 use Rattle.eperftool.specs.declared.refusal.Refusal.{Refusal}
 
 -- the matrices are those of the blocks before block b

@@ -3,7 +3,7 @@ use Rattle.std.proofs.Common.{◌≡◌, ℕ, suc, ◌+◌, ◌-◌, ◌*◌, �
 use Rattle.std.proofs.lemmas.List.Elements.{All-contains, All-weaker, Contains-get_or}
 use Rattle.std.proofs.lemmas.List.Sums.{sum-map, sum_by-cons}
 use Rattle.sparse_rows.specs.Matrix.{Matrix, IsCode}
-use Rattle.sparse_rows.specs.Symbol.{IsSymbol, symbols_of}
+use Rattle.fec_base.specs.Symbol.{IsSymbol, symbols_of}
 use Rattle.sparse_rows.specs.Codeword.{IsEncoded}
 use Rattle.sparse_rows.proofs.Encode.{source_one}
 use Rattle.packet_file.specs.Header.{HeaderFields, IsHeader, source_counts, symbol_count, total_symbols}
@@ -41,7 +41,7 @@ module _ (h : HeaderFields) (matrices : List Matrix) (bytes : List ℕ) (ready :
   word_short header = All-weaker (IsSymbol h.oti.symbol) (λ symbol. length symbol ≤ 65535) (λ symbol is. omega (arith, is.long, header.bits.symbol_bits)) word encodes_block.codeword.symbols
 
 -- sums of as many equal terms
-same_sums : {X Y : Type 0} (f : X → ℕ) (g : Y → ℕ) (a : X) (b : Y) (xs : List X) (ys : List Y) → length xs ≡ length ys → ((i : ℕ) → i < length xs → f (get_or xs i a) ≡ g (get_or ys i b)) → sum_by f xs ≡ sum_by g ys
+pub same_sums : {X Y : Type 0} (f : X → ℕ) (g : Y → ℕ) (a : X) (b : Y) (xs : List X) (ys : List Y) → length xs ≡ length ys → ((i : ℕ) → i < length xs → f (get_or xs i a) ≡ g (get_or ys i b)) → sum_by f xs ≡ sum_by g ys
 same_sums f g a b [] [] long same = refl
 same_sums f g a b [] (y ∷ ys) long same = absurd (cc)
 same_sums f g a b (x ∷ xs) [] long same = absurd (cc)

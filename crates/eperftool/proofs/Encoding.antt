@@ -6,18 +6,18 @@ use Rattle.std.proofs.lemmas.List.{length-replicate}
 use Rattle.std.proofs.lemmas.List.Elements.{All-contains, All-drop, Contains-get_or}
 use Rattle.blocking.proofs.Spread.{ceil_room}
 use Rattle.sparse_rows.specs.Matrix.{Matrix, HasShape, IsCode}
-use Rattle.sparse_rows.specs.Symbol.{symbols_of}
+use Rattle.fec_base.specs.Symbol.{symbols_of}
 use Rattle.sparse_rows.specs.Codeword.{IsEncoded}
 use Rattle.sparse_rows.proofs.Encode.{extend, source_has}
 use Rattle.sparse_rows.proofs.Symbols.{length_symbols, symbols_are}
 use Rattle.packet_file.specs.Header.{HeaderFields, IsHeader, header_bytes, source_counts}
 use Rattle.packet_file.proofs.Sizes.{fields_have_sizes}
-use Rattle.eperftool.specs.Codes.{AreCodes, count_at, matrix_of}
-use Rattle.eperftool.specs.File.{AreEncoded, IsEncodedBlock, block_start, encode_report, packets, padded, source_block}
+use Rattle.eperftool.specs.BuiltCodes.{AreCodes}
+use Rattle.eperftool.specs.Codes.{count_at, matrix_of}
+use Rattle.eperftool.specs.File.{AreEncoded, IsEncodedBlock, block_start, encode_report, packets, padded, source_block, IsEncoding}
 use Rattle.eperftool.specs.Made.{AreWords, IsMade, IsReady, block_source}
 use Rattle.eperftool.specs.Options.{header_for}
-use Rattle.eperftool.specs.Refused.{ReadsObject}
-use Rattle.eperftool.specs.Run.{EncodesBy}
+use Rattle.eperftool.specs.EncodeRun.{ReadsObject}
 use Rattle.eperftool.specs.declared.encode.Made.{Made}
 use Rattle.eperftool.specs.declared.options.EncodeOptions.{EncodeOptions}
 use Rattle.eperftool.proofs.SourceBlocks.{block_room, block_within, symbols_between}
@@ -129,14 +129,10 @@ module _ (o : EncodeOptions) (left left_now : Option (List ℕ)) (object : List 
 
   -- and its words make the packet file
   pub made_file : All (λ byte. byte < 256) made.object.items → (ws : List (List (List ℕ))) × AreWords made.header made.codes.items made.object.items ws
-      × EncodesBy o left left_now (header_bytes made.header ++ packets ws) (encode_report (length ws) (sum_by length ws))
+      × IsEncoding (header_for o (length object)) o.shape.draws object (header_bytes made.header ++ packets ws) (encode_report (length ws) (sum_by length ws))
   made_file small =
       let all = words h reads.header o.shape.draws object refl made.codes.items is.codes made.object.items is.padded_is small in (
         all.0,
         subst (λ (x : HeaderFields). AreWords x made.codes.items made.object.items all.0) (sym is.header) all.1,
-        record {
-          object = object;
-          reads = reads;
-          encoding = record { header = reads.header; words = all.0; encoded = all.2; file_is = ap (λ (x : HeaderFields). header_bytes x ++ packets all.0) is.header; report_is = refl };
-        },
+        record { header = reads.header; words = all.0; encoded = all.2; file_is = ap (λ (x : HeaderFields). header_bytes x ++ packets all.0) is.header; report_is = refl },
       )

@@ -4,9 +4,9 @@ use Rattle.packet_file.specs.declared.fault.FileFault.{FileFault}
 use Rattle.packet_file.specs.declared.fault.FileFault.TheVariants.{ShortHeader, BadMagic, BadVersion, BadCodec, BadReserved, Field, ShortPacket, NoSuchBlock, NoSuchSymbol, TooLarge, TooManyBlocks, TooManyPackets, ReadFault}
 use Rattle.tool_base.specs.declared.status.Status.{Status}
 use Rattle.tool_base.specs.declared.status.Status.TheVariants as status
-use Rattle.eperftool.specs.Refused.{IsRefused, fault_status, refusal_status}
+use Rattle.eperftool.specs.Refusals.{IsRefused, fault_status, refusal_status}
 use Rattle.eperftool.specs.declared.refusal.Refusal.{Refusal}
-use Rattle.eperftool.specs.declared.refusal.Refusal.TheVariants.{Memory, File, Draws}
+use Rattle.eperftool.specs.declared.refusal.Refusal.TheVariants.{Memory, File, Draws, Watch}
 
 -- a fault of a file is no want of memory, and has the status of a refusal
 fault_refused : (fault : FileFault) → IsRefused (fault_status fault)
@@ -44,6 +44,7 @@ pub is_refused : (refusal : Refusal) → IsRefused (refusal_status refusal)
 is_refused Memory = tt
 is_refused (File fault) = fault_refused fault
 is_refused (Draws b) = tt
+is_refused Watch = tt
 
 -- and so no other
 pub no_other : (refusal : Refusal) (result other : Status) → result ≡ refusal_status refusal → result ≡ other → IsRefused other
@@ -54,3 +55,4 @@ pub wants_memory : (refusal : Refusal) → refusal_status refusal ≡ status.Mem
 wants_memory Memory is = refl
 wants_memory (File fault) is = absurd (fault_is_no_want fault is)
 wants_memory (Draws b) is = cc
+wants_memory Watch is = cc

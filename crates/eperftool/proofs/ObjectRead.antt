@@ -4,7 +4,8 @@ use Rattle.std.specs.Io.KnownBytes.{Consumes}
 use Rattle.packet_file.specs.declared.fault.Limit.TheVariants.{Length}
 use Rattle.packet_file.specs.declared.fault.FileFault.TheVariants.{TooLarge}
 use Rattle.eperftool.specs.Object.{RefusesObject}
-use Rattle.eperftool.specs.Refused.{RefusesEncode}
+use Rattle.eperftool.specs.EncodeRun.{RefusesEncode}
+use Rattle.eperftool.specs.Outside.{Stream}
 use Rattle.eperftool.specs.declared.options.EncodeOptions.{EncodeOptions}
 use Rattle.eperftool.specs.declared.refusal.Refusal.{Refusal}
 use Rattle.eperftool.specs.declared.refusal.Refusal.TheVariants.{File}
@@ -17,9 +18,9 @@ refuses_long (Err e) left left_now faults faults_now size bytes said count taken
     let is : e ≡ File (TooLarge Length) = cc (said.0) in inr (is, bytes, taken, omega (arith, said.1, count))
 
 -- without an object there is no file
-pub refuses_input : (o : EncodeOptions) (left left_now : Option (List ℕ)) (faults faults_now : ℕ) (refusal : Refusal)
-    → RefusesObject left left_now faults faults_now refusal → RefusesEncode o left left_now faults faults_now refusal
-refuses_input o left left_now faults faults_now refusal (inl (inl memory)) = subst (RefusesEncode o left left_now faults faults_now) (sym memory) tt
-refuses_input o left left_now faults faults_now refusal (inl (inr read)) = subst (RefusesEncode o left left_now faults faults_now) (sym read.0) read.1
-refuses_input o left left_now faults faults_now refusal (inr long) =
-    subst (RefusesEncode o left left_now faults faults_now) (sym long.0) (long.1, long.2, inl (refl, long.3))
+pub refuses_input : (o : EncodeOptions) (input now : Stream) (refusal : Refusal)
+    → RefusesObject input.bytes now.bytes input.faults now.faults refusal → RefusesEncode o input now refusal
+refuses_input o input now refusal (inl (inl memory)) = subst (RefusesEncode o input now) (sym memory) tt
+refuses_input o input now refusal (inl (inr read)) = subst (RefusesEncode o input now) (sym read.0) read.1
+refuses_input o input now refusal (inr long) =
+    subst (RefusesEncode o input now) (sym long.0) (long.1, long.2, inl (refl, long.3))

@@ -7,27 +7,28 @@ use Rattle.packet_file.specs.Header.{HeaderFields, IsHeader, header_bytes}
 use Rattle.packet_file.specs.Laws.{HeaderIsOne, PacketIsOne}
 use Rattle.packet_file.specs.Packets.{packet_bytes}
 use Rattle.packet_file.proofs.Limits.{ids_fit}
-use Rattle.eperftool.specs.Received.{IsPacketFile, IsPacketOf, Packet, spelled}
+use Rattle.eperftool.specs.Received.{IsPacketFile}
+use Rattle.packet_file.specs.Packets.{IsPacketOf, Packet, spelled}
 
 -- lists of one length that begin the same list are equal, and so is what follows them
-same_fronts : (a b rest more : List ℕ) → length a ≡ length b → a ++ rest ≡ b ++ more → (a ≡ b) × (rest ≡ more)
+pub same_fronts : (a b rest more : List ℕ) → length a ≡ length b → a ++ rest ≡ b ++ more → (a ≡ b) × (rest ≡ more)
 same_fronts a b rest more long is =
     (sym (take_at a rest (length b) long) ∙ ap (take (length b)) is ∙ take_at b more (length b) refl, sym (drop_at a rest (length b) long) ∙ ap (drop (length b)) is ∙ drop_at b more (length b) refl)
 
 -- a header has 26 bytes
-length_header : (h : HeaderFields) → length (header_bytes h) ≡ 26
+pub length_header : (h : HeaderFields) → length (header_bytes h) ≡ 26
 length_header h = refl
 
 -- a packet has four bytes and its symbol
-length_packet : (id : PacketId) (symbol : List ℕ) → length (packet_bytes id symbol) ≡ 4 + length symbol
+pub length_packet : (id : PacketId) (symbol : List ℕ) → length (packet_bytes id symbol) ≡ 4 + length symbol
 length_packet id symbol = omega arith
 
-abbrev packet : PacketId → List ℕ → Packet
+abbrev pub packet : PacketId → List ℕ → Packet
 packet id symbol = (id, symbol)
 
 module _ (header_one : HeaderIsOne) (packet_one : PacketIsOne) where
   -- bytes are packets of a file in one way
-  packets_one : (h : HeaderFields) → IsHeader h → (packets others : List Packet) → All (IsPacketOf h) packets → All (IsPacketOf h) others → spelled packets ≡ spelled others → packets ≡ others
+  pub packets_one : (h : HeaderFields) → IsHeader h → (packets others : List Packet) → All (IsPacketOf h) packets → All (IsPacketOf h) others → spelled packets ≡ spelled others → packets ≡ others
   packets_one h is [] [] each other same = refl
   packets_one h is [] (q ∷ others) each other same = absurd (cc)
   packets_one h is (p ∷ packets) [] each other same = absurd (cc)

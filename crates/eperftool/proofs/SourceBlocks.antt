@@ -3,7 +3,7 @@ use Rattle.std.proofs.Common.{◌≡◌, ℕ, ◌+◌, ◌-◌, ◌*◌, ◌<◌
 use Rattle.std.specs.Int.{div_ceil}
 use Rattle.std.proofs.lemmas.List.Sums.{sum_by_more_le}
 use Rattle.blocking.proofs.Spread.{sizes_sum}
-use Rattle.sparse_rows.specs.Symbol.{symbols_of}
+use Rattle.fec_base.specs.Symbol.{symbols_of}
 use Rattle.sparse_rows.proofs.Symbols.{length_symbols, symbol_is, symbols_of_front}
 use Rattle.packet_file.specs.Header.{HeaderFields, IsHeader, source_counts}
 use Rattle.packet_file.proofs.Sizes.{HasSizes, fields_have_sizes}
@@ -11,11 +11,11 @@ use Rattle.eperftool.specs.Codes.{count_at}
 use Rattle.eperftool.specs.File.{block_start}
 
 module _ (h : HeaderFields) (header : IsHeader h) where
-  sizes : HasSizes h.codec h.oti
+  pub sizes : HasSizes h.codec h.oti
   sizes = fields_have_sizes h.codec h.oti header.fields
 
   -- the blocks have all source symbols
-  counts_sum : sum (source_counts h) ≡ div_ceil h.oti.length h.oti.symbol
+  pub counts_sum : sum (source_counts h) ≡ div_ceil h.oti.length h.oti.symbol
   counts_sum = sizes_sum h.oti.length h.oti.symbol h.oti.block sizes.symbol sizes.block
 
   module _ (b : ℕ) (inside : b < length (source_counts h)) where

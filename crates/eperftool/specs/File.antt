@@ -1,10 +1,11 @@
 -- The packet file of an object.
-use Rattle.std.specs.Prelude.{◌≡◌, ℕ, ◌-◌, ◌*◌, ◌<◌, List, [], ◌++◌, length, replicate, slice_index_or, sum, sum_by, take, drop, Option, Some, codes}
+use Rattle.std.specs.Prelude.{◌≡◌, ℕ, ◌-◌, ◌*◌, ◌<◌, List, [], ◌++◌, length, replicate}
+use Rattle.std.specs.Prelude.{slice_index_or, sum, sum_by, take, drop, Option, Some, codes}
 use Rattle.std.specs.Fmt.{decimal}
 use Rattle.std.specs.Int.{div_ceil}
 use Rattle.std.specs.List.{enumerate_from, flat_map}
 use Rattle.sparse_rows.specs.Matrix.{HasShape, Matrix}
-use Rattle.sparse_rows.specs.Symbol.{symbols_of}
+use Rattle.fec_base.specs.Symbol.{symbols_of}
 use Rattle.sparse_rows.specs.Codeword.{IsEncoded}
 use Rattle.packet_file.specs.Header.{HeaderFields, IsHeader, header_bytes, source_counts}
 use Rattle.packet_file.specs.Packets.{packet_bytes}
@@ -21,7 +22,8 @@ padded size bytes = bytes ++ replicate (size - length bytes) 0
 
 -- the source symbols of an object: its bytes in pieces of len bytes, the last one padded
 abbrev pub source_symbols : ℕ → List ℕ → List (List ℕ)
-source_symbols len object = let count = div_ceil (length object) len in symbols_of len count (padded (count * len) object)
+source_symbols len object = let count = div_ceil (length object) len in symbols_of len count
+    (padded (count * len) object)
 
 -- how many source symbols the blocks before block b have
 abbrev pub block_start : HeaderFields → ℕ → ℕ
@@ -29,23 +31,28 @@ block_start h b = sum (take b (source_counts h))
 
 -- source block b of an object: the source symbols behind those of the blocks before it
 abbrev pub source_block : HeaderFields → List ℕ → ℕ → List (List ℕ)
-source_block h object b = take (count_at h b) (drop (block_start h b) (source_symbols h.oti.symbol object))
+source_block h object b = take (count_at h b)
+    (drop (block_start h b) (source_symbols h.oti.symbol object))
 
 -- the word is the codeword of source block b, by the matrix for its size, which has the shape
-pub record IsEncodedBlock (h : HeaderFields) (draws : Option ℕ) (object : List ℕ) (b : ℕ) (word : List (List ℕ)) : Type 0 where
+pub record IsEncodedBlock (h : HeaderFields) (draws : Option ℕ) (object : List ℕ) (b : ℕ)
+    (word : List (List ℕ)) : Type 0 where
   pub matrix : Matrix
   pub code : matrix_of h draws (count_at h b) ≡ Some matrix
   pub shape : HasShape matrix
   pub encoded : IsEncoded matrix h.oti.symbol (source_block h object b) word
 
 -- the words are the codewords of the object's source blocks
-pub record AreEncoded (h : HeaderFields) (draws : Option ℕ) (object : List ℕ) (words : List (List (List ℕ))) : Type 0 where
+pub record AreEncoded (h : HeaderFields) (draws : Option ℕ) (object : List ℕ)
+    (words : List (List (List ℕ))) : Type 0 where
   pub counted : length words ≡ length (source_counts h)
-  pub each : (b : ℕ) → b < length words → IsEncodedBlock h draws object b (slice_index_or words b [])
+  pub each : (b : ℕ) → b < length words
+      → IsEncodedBlock h draws object b (slice_index_or words b [])
 
 -- the packets of a block's codeword, in rising order of the ESI
 abbrev pub block_packets : ℕ → List (List ℕ) → List ℕ
-block_packets b word = flat_map (λ (p : ℕ × List ℕ). packet_bytes (identifier b p.0) p.1) (enumerate_from 0 word)
+block_packets b word = flat_map (λ (p : ℕ
+    × List ℕ). packet_bytes (identifier b p.0) p.1) (enumerate_from 0 word)
 
 -- the packets of all blocks, block by block
 abbrev pub packets : List (List (List ℕ)) → List ℕ
@@ -53,12 +60,15 @@ packets words = flat_map (λ (p : ℕ × List (List ℕ)). block_packets p.0 p.1
 
 -- what is reported of so many blocks and packets
 abbrev pub encode_report : ℕ → ℕ → List ℕ
-encode_report blocks count = codes "blocks " ++ decimal blocks ++ codes "\npackets " ++ decimal count ++ codes "\n"
+encode_report blocks count = codes "blocks " ++ decimal blocks ++ codes "\npackets " ++ decimal
+    count ++ codes "\n"
 
--- the packet file of an object, and its report: each source block is encoded by its matrix, and the file is the header and the packets of the codewords
-pub record IsEncoding (h : HeaderFields) (draws : Option ℕ) (object file report : List ℕ) : Type 0 where
-  pub header : IsHeader h
-  pub words : List (List (List ℕ))
-  pub encoded : AreEncoded h draws object words
-  pub file_is : file ≡ header_bytes h ++ packets words
-  pub report_is : report ≡ encode_report (length words) (sum_by length words)
+-- the packet file of an object, and its report: each source block is encoded by its matrix, and the
+-- file is the header and the packets of the codewords
+pub record IsEncoding (h : HeaderFields) (draws : Option ℕ) (object file report : List ℕ) : Type 0
+  where
+    pub header : IsHeader h
+    pub words : List (List (List ℕ))
+    pub encoded : AreEncoded h draws object words
+    pub file_is : file ≡ header_bytes h ++ packets words
+    pub report_is : report ≡ encode_report (length words) (sum_by length words)

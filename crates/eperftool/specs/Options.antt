@@ -21,7 +21,16 @@ Asks words o = command_of words ≡ Some (encode_command o)
 abbrev pub header_for : EncodeOptions → ℕ → HeaderFields
 header_for o size = record {
   codec = o.shape.codec;
-  oti = record { length = size; symbol = o.symbol; n1m3 = o.shape.n1 - 3; group = 1; block = o.block; max_n = o.max_n; seed = seed_field o.shape };
+  oti = record {
+    length = size;
+    symbol = o.symbol;
+    n1m3 = o.shape.n1 - 3;
+    group = 1;
+    block =
+        o.block;
+    max_n = o.max_n;
+    seed = seed_field o.shape;
+  };
 }
 
 -- the first word is that of a command that isn't built yet

@@ -1,95 +1,56 @@
 -- What a run does.
-use Rattle.std.specs.Prelude.{◌≡◌, ◌⊎◌, ◌++◌, ℕ, List, length, Option, Some, None, codes, true, false}
-use Rattle.std.specs.Io.KnownBytes.{Appends, Consumes, Keeps}
-use Rattle.fec_base.specs.Bytes.{AppendsFront}
-use Rattle.fec_base.specs.Causes.{Rose}
+use Rattle.std.specs.Prelude.{Bool, List, None, Option, Some, true, false, ℕ, ◌≡◌, ◌≢◌, ◌⊎◌}
 use Rattle.tool_base.specs.Commands.{command_of}
+use Rattle.tool_base.specs.Status.{fault_text}
+use Rattle.tool_base.specs.declared.command.Command.{Command}
+use Rattle.tool_base.specs.declared.status.Status.{Status}
+use Rattle.eperftool.specs.DecodeRun.{IsDecodeRun}
+use Rattle.eperftool.specs.EncodeRun.{IsEncodeRun}
+use Rattle.eperftool.specs.Options.{is_later}
+use Rattle.eperftool.specs.Outside.{Hearing, Streams}
+use Rattle.eperftool.specs.Written.{IsTold}
 use Rattle.tool_base.specs.declared.command.Command.TheVariants as command
-use Rattle.tool_base.specs.declared.status.Status.TheVariants.{Done}
-use Rattle.eperftool.specs.Options.{Asks, header_for, is_later}
-use Rattle.eperftool.specs.File.{IsEncoding}
-use Rattle.eperftool.specs.Decoded.{Decodes, LacksMemory, outcome_status}
-use Rattle.eperftool.specs.Refused.{ReadsObject, RefusesDecode, RefusesEncode}
-use Rattle.eperftool.specs.declared.options.EncodeOptions.{EncodeOptions}
-use Rattle.eperftool.specs.declared.outcome.BlockOutcome.{BlockOutcome}
-use Rattle.eperftool.specs.declared.refusal.Refusal.{Refusal}
+use Rattle.tool_base.specs.declared.status.Status.TheVariants as status
 
--- some bytes were taken from the front of the input
-abbrev pub TakesSome : Option (List ℕ) → Option (List ℕ) → Type 0
-TakesSome left left_now = (bytes : List ℕ) × Consumes left left_now bytes
+-- what a run does whose words mean no command
+pub record IsUsageRun (before after : Streams) (ended : Status) : Type 0 where
+  -- the words are usage, if there was memory to read them
+  pub ends : (ended ≡ status.Usage) ⊎ (ended ≡ status.Memory)
+  -- nothing was read or written, and the report says so
+  pub input : after.input ≡ before.input
+  pub output : after.output ≡ before.output
+  pub told : IsTold (fault_text ended) before.report after.report
 
--- some bytes were taken from the front of the input, and stand behind those that were there
-pub record TakesBehind (left left_now : Option (List ℕ)) (before after : List ℕ) : Type 0 where
-  pub bytes : List ℕ
-  pub taken : Consumes left left_now bytes
-  pub behind : after ≡ before ++ bytes
+-- what a run does whose words ask for what isn't built yet
+pub record IsUnbuiltRun (before after : Streams) (ended : Status) : Type 0 where
+  pub ends : ended ≡ status.Unbuilt
+  -- nothing was read or written, and the report says so
+  pub input : after.input ≡ before.input
+  pub output : after.output ≡ before.output
+  pub told : IsTold (fault_text ended) before.report after.report
 
--- the input was read to its end, and these are its packet file and its report
-pub record EncodesBy (o : EncodeOptions) (left left_now : Option (List ℕ)) (file report : List ℕ) : Type 0 where
-  pub object : List ℕ
-  pub reads : ReadsObject o left left_now object
-  pub encoding : IsEncoding (header_for o (length object)) o.shape.draws object file report
+-- what a run of a command does, or one of words that mean none
+abbrev pub IsCommandRun : Option Command → Streams → Streams → Hearing → Hearing → Status → Type 0
+IsCommandRun None before after watch watch_now ended = IsUsageRun before after ended
+IsCommandRun (Some (command.Encode shape symbol block max_n)) before after watch watch_now ended =
+    IsEncodeRun (record { shape = shape; symbol = symbol; block = block; max_n = max_n })
+    before after ended
+IsCommandRun (Some (command.Decode draws early most)) before after watch watch_now ended =
+    IsDecodeRun draws early most before after watch watch_now ended
 
--- a part of the file, from its front on, was appended
-abbrev pub AppendsPart : Option (List ℕ) → Option (List ℕ) → List ℕ → Type 0
-AppendsPart held held_now file = (part : List ℕ) × (rest : List ℕ) × Appends held held_now part × (file ≡ part ++ rest)
+-- what a run does, by whether the words ask for what comes later, and by the command that they mean
+abbrev pub IsAskedRun : Bool → Option Command → Streams → Streams → Hearing → Hearing → Status
+    → Type 0
+IsAskedRun true asked before after watch watch_now ended = IsUnbuiltRun before after ended
+IsAskedRun false asked before after watch watch_now ended =
+    IsCommandRun asked before after watch watch_now ended
 
--- the words mean an `encode`, and these are the packet file of the input and its report
-abbrev pub Encodes : List (List ℕ) → Option (List ℕ) → Option (List ℕ) → List ℕ → List ℕ → Type 0
-Encodes words left left_now file report = (o : EncodeOptions) × Asks words o × EncodesBy o left left_now file report
+-- what a run does: what the words ask for
+abbrev pub IsRun : List (List ℕ) → Streams → Streams → Hearing → Hearing → Status → Type 0
+IsRun words before after watch watch_now ended =
+    IsAskedRun (is_later words) (command_of words) before after watch watch_now ended
 
--- the words mean a `decode` to the end of the input, with this limit of draws, and this one of packets
-abbrev pub AsksDecode : List (List ℕ) → Option ℕ → ℕ → Type 0
-AsksDecode words draws most = command_of words ≡ Some (command.Decode draws false most)
-
--- the input is a packet file whose packets determine each block by peeling; these are its object and the report
-abbrev pub Rebuilds : Option ℕ → ℕ → Option (List ℕ) → Option (List ℕ) → List ℕ → List ℕ → Type 0
-Rebuilds draws most left left_now object report =
-    (outcomes : List BlockOutcome) × (outcome_status outcomes ≡ Done) × Decodes draws most left left_now outcomes object report
-
--- what the words mean: the packet file of the input, or its object, and the report
-abbrev pub Makes : List (List ℕ) → Option (List ℕ) → Option (List ℕ) → List ℕ → List ℕ → Type 0
-Makes words left left_now made report = Encodes words left left_now made report
-    ⊎ ((draws : Option ℕ) × (most : ℕ) × AsksDecode words draws most × Rebuilds draws most left left_now made report)
-
--- the command that the words mean refuses its input
-abbrev pub Refuses : List (List ℕ) → Option (List ℕ) → Option (List ℕ) → ℕ → ℕ → Refusal → Type 0
-Refuses words left left_now faults faults_now refusal =
-    ((o : EncodeOptions) × Asks words o × RefusesEncode o left left_now faults faults_now refusal)
-    ⊎ ((draws : Option ℕ) × (most : ℕ) × AsksDecode words draws most × RefusesDecode draws most left left_now faults faults_now refusal)
-
--- the words mean nothing that is built yet: their command comes later, or they mean a `decode` that ends early
-abbrev pub IsUnbuilt : List (List ℕ) → Type 0
-IsUnbuilt words = (is_later words ≡ true) ⊎ ((draws : Option ℕ) × (most : ℕ) × (command_of words ≡ Some (command.Decode draws true most)))
-
--- the words mean no command
-abbrev pub IsUsage : List (List ℕ) → Type 0
-IsUsage words = (is_later words ≡ false) × (command_of words ≡ None)
-
--- memory lacked before anything was written, and in a `decode` not while packets came; or in an `encode` within the output
-abbrev pub EndsForMemory : List (List ℕ) → Option (List ℕ) → Option (List ℕ) → Option (List ℕ) → Option (List ℕ) → Type 0
-EndsForMemory words left left_now held held_now =
-    (Keeps held held_now × ((draws : Option ℕ) (most : ℕ) → AsksDecode words draws most → LacksMemory most left left_now))
-    ⊎ ((file : List ℕ) × (text : List ℕ) × Encodes words left left_now file text × AppendsPart held held_now file)
-
--- the sink took the text, or a front of it where its count rose
-abbrev pub IsTold : List ℕ → Option (List ℕ) → Option (List ℕ) → ℕ → ℕ → Type 0
-IsTold text held held_now faults faults_now = Appends held held_now text ⊎ (Rose faults faults_now × AppendsFront held held_now text)
-
--- the output failed: it has a front of the file, and the report says so, as far as it takes the text
-pub record OutputFails (file : List ℕ) (held held_now : Option (List ℕ)) (faults faults_now : ℕ) (told told_now : Option (List ℕ)) (report_faults report_faults_now : ℕ) : Type 0 where
-  pub rose : Rose faults faults_now
-  pub front : AppendsFront held held_now file
-  pub told_so : IsTold (codes "fault: write\n") told told_now report_faults report_faults_now
-
--- the report failed: the output has the whole file, and the report a front of its text
-pub record ReportFails (file report : List ℕ) (held held_now told told_now : Option (List ℕ)) (report_faults report_faults_now : ℕ) : Type 0 where
-  pub rose : Rose report_faults report_faults_now
-  pub whole : Appends held held_now file
-  pub front : AppendsFront told told_now report
-
--- a run that was to write these failed: its output did, or its report alone
-abbrev pub IsCut : List ℕ → List ℕ → Option (List ℕ) → Option (List ℕ) → ℕ → ℕ → Option (List ℕ) → Option (List ℕ) → ℕ → ℕ → Type 0
-IsCut made report held held_now faults faults_now told told_now report_faults report_faults_now =
-    OutputFails made held held_now faults faults_now told told_now report_faults report_faults_now
-    ⊎ ReportFails made report held held_now told told_now report_faults report_faults_now
+-- the words mean no `decode`
+abbrev pub AsksNoDecode : List (List ℕ) → Type 0
+AsksNoDecode words = (draws : Option ℕ) (early : Bool) (most : ℕ)
+    → command_of words ≢ Some (command.Decode draws early most)

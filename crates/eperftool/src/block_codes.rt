@@ -1,18 +1,22 @@
 // The codes of a file's blocks.
-ghost use Rattle.std.specs.Prelude.{◌≡◌, ◌<◌, ◌↔◌, IsTrue, IfOk, IfErr, Some, length, Contains};
+ghost use Rattle.std.specs.Prelude.{◌≡◌, ◌<◌, ◌≤◌, ◌↔◌, IsTrue, IfOk, IfErr, Some, length, vec_len};
+ghost use Rattle.std.specs.Prelude.{Contains};
 ghost use Rattle.sparse_rows.specs.Matrix.{IsCode};
 ghost use Rattle.packet_file.specs.Header.{source_counts};
 ghost use Rattle.packet_file.specs.Packets.{block_symbols};
-ghost use Rattle.eperftool.specs.Codes.{AreCodes, HasSize, RefusesCode, RefusesCodes, count_at, matrix_of};
+ghost use Rattle.eperftool.specs.BuiltCodes.{AreBlockCodes, AreCodes, HasSize, RefusesCode};
+ghost use Rattle.eperftool.specs.BuiltCodes.{RefusesCodes};
+ghost use Rattle.eperftool.specs.Codes.{count_at, matrix_of};
 
 use crate::Refusal;
+use fec_base::NoMemory;
 use packet_file::Header;
 use sparse_rows::Code;
 use std::alloc::Global;
 use tool_base::{BuildRefusal, block_code};
 
-/// The codes of the file's blocks, one for each number of source symbols that a block has: there are
-/// at most two. `Draws` names the first block whose code takes more draws than there may be.
+/// The codes of the file's blocks, one for each number of source symbols that a block has: there
+/// are at most two. `Draws` names the first block whose code takes more draws than there may be.
 pub fn build_codes(alloc: Global, header: &Header, draws: Option<u32>) -> Result<Vec<Code>, Refusal>
     ensures codes { IfOk result (λ codes. AreCodes header.now draws codes.items) }
     ensures refusal { IfErr result (RefusesCodes header.now draws) }
@@ -26,6 +30,31 @@ pub fn build_codes(alloc: Global, header: &Header, draws: Option<u32>) -> Result
     Ok(codes)
 }
 
+/// The code of each of the file's blocks, in order. `Draws` names the first block whose code takes
+/// more draws than there may be.
+pub fn block_codes(alloc: Global, header: &Header, draws: Option<u32>) -> Result<Vec<Code>, Refusal>
+    ensures codes { IfOk result (λ codes. AreBlockCodes header.now draws codes.items) }
+    ensures few { IfOk result (λ codes. vec_len codes ≤ 4096) }
+    ensures refusal { IfErr result (RefusesCodes header.now draws) }
+{
+    let sizes = build_codes(alloc, header, draws)?;
+    let mut codes = Vec::with_capacity(alloc, header.plan().count() as usize)?;
+    for block in 0..header.plan().count() {
+        codes.push(copy_code(alloc, header, &sizes, block)?)?;
+    }
+    Ok(codes)
+}
+
+// A copy of the code, of those of a file's blocks, that a block has.
+fn copy_code(alloc: Global, header: &Header, codes: &[Code], block: u32) -> Result<Code, NoMemory>
+    requires block { block < length (source_counts header.now) }
+    requires code { HasSize codes.now (count_at header.now block) }
+    ensures matrix { IfOk result (Contains codes.now) }
+    ensures size { IfOk result (λ code. code.k ≡ count_at header.now block) }
+{
+    Ok(find_code(codes, header.source_count(block)).copy(alloc)?)
+}
+
 // The code of a block.
 fn build_code(
     alloc: Global,
@@ -34,7 +63,8 @@ fn build_code(
     draws: Option<u32>,
 ) -> Result<Code, Refusal>
     requires { block < length (source_counts header.now) }
-    ensures code { IfOk result (λ code. matrix_of header.now draws (count_at header.now block) ≡ Some code) }
+    ensures code { IfOk result (λ code. matrix_of header.now draws (count_at header.now block)
+        ≡ Some code) }
     ensures source { IfOk result (λ code. code.k ≡ count_at header.now block) }
     ensures symbols { IfOk result (λ code. code.n ≡ block_symbols header.now block) }
     ensures shape { IfOk result IsCode }

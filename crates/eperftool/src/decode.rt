@@ -1,163 +1,281 @@
 // The `decode` of a packet file.
-ghost use Rattle.std.specs.Prelude.{◌≡◌, ◌≢◌, ◌≤◌, ◌-◌, ◌⊎◌, ◌++◌, [], ℕ, List, take, length, IfOk, OnOk, OnErr};
+ghost use Rattle.std.specs.Prelude.{◌≡◌, ◌≢◌, ◌≤◌, ◌<◌, ◌-◌, ◌⊎◌, ◌++◌, [], ℕ, List, take, length};
+ghost use Rattle.std.specs.Prelude.{slice_index, slice_index_or, IfOk, OnOk, OnErr};
+ghost use Rattle.std.specs.List.{flat_map};
 ghost use Rattle.std.specs.Io.KnownBytes.{Appends, Keeps};
 ghost use Rattle.fec_base.specs.Bytes.{AppendsFront};
-ghost use Rattle.fec_base.specs.Causes.{HasCause, Rose};
-ghost use Rattle.peeling.specs.Decoder.{HasAllSource};
+ghost use Rattle.fec_base.specs.Causes.{HasCause};
+ghost use Rattle.peeling.specs.Decoder.{Decoder};
+ghost use Rattle.fec_session.specs.Session.{ComeOut};
+ghost use Rattle.fec_session.specs.declared.outcome.Outcome.{Outcome};
+ghost use Rattle.packet_file.specs.Header.{source_counts};
+ghost use Rattle.eperftool.specs.DecodeRun.{IsDecodeRun};
+ghost use Rattle.eperftool.specs.Outcomes.{decode_report, object_of, outcome_status, source_bytes};
+ghost use Rattle.eperftool.specs.Outside.{hearing, seen, stream};
+ghost use Rattle.eperftool.specs.Receiving.{HasSource, HaveSource, HoldsCount};
+ghost use Rattle.eperftool.specs.Refusals.{IsRefused, refusal_text};
 ghost use Rattle.eperftool.specs.Staged.{PassesOn};
-ghost use Rattle.eperftool.specs.Decoded.{AreDecoders, ComeOut, Decodes, HaveAllSource, LacksMemory, decode_report, kept_object, outcome_status, source_bytes};
-ghost use Rattle.eperftool.specs.Refused.{IsRefused, RefusesDecode, refusal_status, refusal_text};
-ghost use Rattle.eperftool.specs.Run.{IsCut, IsTold, Rebuilds, TakesSome};
-ghost use Rattle.eperftool.specs.declared.outcome.BlockOutcome.{BlockOutcome};
+ghost use Rattle.eperftool.specs.Written.{IsCut, IsTold};
 ghost use Rattle.eperftool.specs.declared.refusal.Refusal.{Refusal};
 ghost use Rattle.eperftool.specs.declared.refusal.Refusal.TheVariants.{Memory};
 
 use crate::{
-    BlockOutcome, Received, Refusal, STAGING_LEN, Staging, block_outcomes, conclude,
-    outcome_status, put_decode_report, receive, refuse, tell,
+    Ended, Received, Refusal, STAGING_LEN, Staging, conclude, outcome_status, put_decode_report,
+    receive, refuse, tell,
 };
-use fec_base::{NoMemory, Sink, Source, WriteFailed};
-use fec_session::Core;
+use fec_base::{NoMemory, Sink, Source, Watch, WriteFailed};
+use fec_session::{Finished, Outcome, SourceBlock};
+use packet_file::Header;
 use std::alloc::Global;
 use tool_base::Status;
 
-/// Decodes the packet file that the input is: it is received whole, and then the object is written
-/// where its packets determine each block by peeling.
-pub fn decode<S: Source, K: Sink, R: Sink>(
+/// Decodes the packet file that the input is: its packets are received to the last, and then the
+/// object is written where each block has one source alone.
+pub fn decode<S: Source, K: Sink, R: Sink, W: Watch>(
     alloc: Global,
     draws: Option<u32>,
+    early: bool,
     most: u32,
     input: &mut S,
     output: &mut K,
     report: &mut R,
-) -> Status
-    ensures done { result ≡ Status.Done → (object : List ℕ) × (text : List ℕ) × Rebuilds draws most (S.left input.old) (S.left input.new) object text
-        × Appends (K.held output.old) (K.held output.new) object × Appends (R.held report.old) (R.held report.new) text }
-    ensures cut { result ≡ Status.WriteFault → (object : List ℕ) × (text : List ℕ) × Rebuilds draws most (S.left input.old) (S.left input.new) object text
-        × IsCut object text (K.held output.old) (K.held output.new) (K.faults output.old) (K.faults output.new) (R.held report.old) (R.held report.new) (R.faults report.old) (R.faults report.new) }
-    ensures undecided { (result ≡ Status.NoCodeword) ⊎ (result ≡ Status.Stuck) → (outcomes : List BlockOutcome) × (object : List ℕ) × (text : List ℕ) × (outcome_status outcomes ≡ result)
-        × Decodes draws most (S.left input.old) (S.left input.new) outcomes object text
-        × IsTold text (R.held report.old) (R.held report.new) (R.faults report.old) (R.faults report.new) }
-    ensures refused { IsRefused result → (refusal : Refusal) × (result ≡ refusal_status refusal)
-        × RefusesDecode draws most (S.left input.old) (S.left input.new) (S.faults input.old) (S.faults input.new) refusal
-        × IsTold (refusal_text refusal) (R.held report.old) (R.held report.new) (R.faults report.old) (R.faults report.new) }
-    ensures memory { result ≡ Status.Memory → LacksMemory most (S.left input.old) (S.left input.new) }
-    ensures unwritten { result ≢ Status.Done → result ≢ Status.WriteFault → Keeps (K.held output.old) (K.held output.new) }
-    ensures ends { (result ≢ Status.Usage) × (result ≢ Status.Unbuilt) }
-    ensures taken { TakesSome (S.left input.old) (S.left input.new) }
+    watch: W,
+) -> Ended<W>
+    ensures decodes { IsDecodeRun draws early most
+        (seen (S.left input.old) (S.faults input.old) (K.held output.old) (K.faults output.old)
+        (R.held report.old) (R.faults report.old))
+        (seen (S.left input.new) (S.faults input.new) (K.held output.new) (K.faults output.new)
+        (R.held report.new) (R.faults report.new))
+        (hearing (W.told watch) (W.faults watch))
+        (hearing (W.told result.watch) (W.faults result.watch)) result.status }
+    ensures name { W.name result.watch ≡ W.name watch }
 {
-    match receive(alloc, draws, most, input) {
-        Ok(received) => finish(alloc, &received, output, report),
-        Err(refusal) => refuse(report, refusal),
+    match receive(alloc, draws, early, most, input, watch) {
+        Ok(received) => finish(alloc, received, output, report),
+        Err((refusal, watch)) => Ended {
+            status: refuse(report, refusal),
+            watch,
+        },
     }
 }
 
-// Ends the decode of a file that was received: all memory is taken before the first write.
-fn finish<K: Sink, R: Sink>(
+// Ends the decode of a file whose packets were received to the last.
+fn finish<K: Sink, R: Sink, W: Watch>(
     alloc: Global,
-    received: &Received,
+    received: Received<W>,
+    output: &mut K,
+    report: &mut R,
+) -> Ended<W>
+    requires counted { length received.receiver.cores ≡ length (source_counts received.header) }
+    requires sized { (b : ℕ) (d : Decoder) → b < length received.receiver.cores
+        → (slice_index_or received.receiver.cores b d).matrix.k
+        ≡ slice_index (source_counts received.header) b }
+    ensures done { result.status ≡ Status.Done → (outcomes : List Outcome)
+        × (outcome_status outcomes ≡ Status.Done) × ComeOut received.receiver.cores outcomes
+        × Appends (K.held output.old) (K.held output.new)
+        (object_of outcomes received.header.oti.length)
+        × Appends (R.held report.old) (R.held report.new)
+        (decode_report outcomes received.packets) }
+    ensures cut { result.status ≡ Status.WriteFault → (outcomes : List Outcome)
+        × (outcome_status outcomes ≡ Status.Done) × ComeOut received.receiver.cores outcomes
+        × IsCut (object_of outcomes received.header.oti.length)
+        (decode_report outcomes received.packets)
+        (stream (K.held output.old) (K.faults output.old))
+        (stream (K.held output.new) (K.faults output.new))
+        (stream (R.held report.old) (R.faults report.old))
+        (stream (R.held report.new) (R.faults report.new)) }
+    ensures undecided { (result.status ≡ Status.NoCodeword) ⊎ (result.status ≡ Status.Undetermined)
+        → (outcomes : List Outcome) × (outcome_status outcomes ≡ result.status)
+        × ComeOut received.receiver.cores outcomes
+        × IsTold (decode_report outcomes received.packets)
+        (stream (R.held report.old) (R.faults report.old))
+        (stream (R.held report.new) (R.faults report.new)) }
+    ensures memory { result.status ≡ Status.Memory → IsTold (refusal_text Memory)
+        (stream (R.held report.old) (R.faults report.old))
+        (stream (R.held report.new) (R.faults report.new)) }
+    ensures unwritten { result.status ≢ Status.Done → result.status ≢ Status.WriteFault
+        → Keeps (K.held output.old) (K.held output.new) }
+    ensures ends { IsRefused result.status → result.status ≡ Status.Memory }
+    ensures asked { (result.status ≢ Status.Usage) × (result.status ≢ Status.Unbuilt) }
+    ensures watch { result.watch ≡ received.receiver.watch }
+{
+    let Received {
+        header,
+        receiver,
+        packets,
+    } = received;
+    match receiver.finish_all(alloc) {
+        Ok(finished) => {
+            let status = write_outcomes(alloc, &header, &finished, packets, output, report);
+            Ended {
+                status,
+                watch: finished.into_watch(),
+            }
+        }
+        Err((watch, NoMemory)) => Ended {
+            status: refuse(report, Refusal::Memory),
+            watch,
+        },
+    }
+}
+
+// Writes the object, where each block has a source, and reports how the blocks came out. All memory
+// is taken before the first write.
+fn write_outcomes<K: Sink, R: Sink, W: Watch>(
+    alloc: Global,
+    header: &Header,
+    finished: &Finished<W>,
+    packets: u64,
     output: &mut K,
     report: &mut R,
 ) -> Status
-    ensures done { result ≡ Status.Done → (outcomes : List BlockOutcome) × (outcome_status outcomes ≡ Status.Done) × ComeOut received.now.cores.items outcomes
-        × Appends (K.held output.old) (K.held output.new) (kept_object received.now.cores.items received.now.header.oti.length)
-        × Appends (R.held report.old) (R.held report.new) (decode_report outcomes received.now.packets) }
-    ensures cut { result ≡ Status.WriteFault → (outcomes : List BlockOutcome) × (outcome_status outcomes ≡ Status.Done) × ComeOut received.now.cores.items outcomes
-        × IsCut (kept_object received.now.cores.items received.now.header.oti.length) (decode_report outcomes received.now.packets)
-        (K.held output.old) (K.held output.new) (K.faults output.old) (K.faults output.new) (R.held report.old) (R.held report.new) (R.faults report.old) (R.faults report.new) }
-    ensures undecided { (result ≡ Status.NoCodeword) ⊎ (result ≡ Status.Stuck) → (outcomes : List BlockOutcome) × (outcome_status outcomes ≡ result) × ComeOut received.now.cores.items outcomes
-        × IsTold (decode_report outcomes received.now.packets) (R.held report.old) (R.held report.new) (R.faults report.old) (R.faults report.new) }
-    ensures memory { result ≡ Status.Memory → IsTold (refusal_text Memory) (R.held report.old) (R.held report.new) (R.faults report.old) (R.faults report.new) }
-    ensures unwritten { result ≢ Status.Done → result ≢ Status.WriteFault → Keeps (K.held output.old) (K.held output.new) }
+    requires counted { length finished.now.outcomes ≡ length (source_counts header.now) }
+    requires sized { (b : ℕ) (o : Outcome) → b < length finished.now.outcomes
+        → HoldsCount (slice_index (source_counts header.now) b)
+        (slice_index_or finished.now.outcomes b o) }
+    ensures done { result ≡ Status.Done → (outcome_status finished.now.outcomes ≡ Status.Done)
+        × Appends (K.held output.old) (K.held output.new)
+        (object_of finished.now.outcomes header.now.oti.length)
+        × Appends (R.held report.old) (R.held report.new)
+        (decode_report finished.now.outcomes packets) }
+    ensures cut { result ≡ Status.WriteFault → (outcome_status finished.now.outcomes ≡ Status.Done)
+        × IsCut (object_of finished.now.outcomes header.now.oti.length)
+        (decode_report finished.now.outcomes packets)
+        (stream (K.held output.old) (K.faults output.old))
+        (stream (K.held output.new) (K.faults output.new))
+        (stream (R.held report.old) (R.faults report.old))
+        (stream (R.held report.new) (R.faults report.new)) }
+    ensures undecided { (result ≡ Status.NoCodeword) ⊎ (result ≡ Status.Undetermined)
+        → (outcome_status finished.now.outcomes ≡ result)
+        × IsTold (decode_report finished.now.outcomes packets)
+        (stream (R.held report.old) (R.faults report.old))
+        (stream (R.held report.new) (R.faults report.new)) }
+    ensures memory { result ≡ Status.Memory → IsTold (refusal_text Memory)
+        (stream (R.held report.old) (R.faults report.old))
+        (stream (R.held report.new) (R.faults report.new)) }
+    ensures unwritten { result ≢ Status.Done → result ≢ Status.WriteFault
+        → Keeps (K.held output.old) (K.held output.new) }
     ensures ends { IsRefused result → result ≡ Status.Memory }
     ensures asked { (result ≢ Status.Usage) × (result ≢ Status.Unbuilt) }
 {
-    let Ok((outcomes, mut staging)) = prepare(alloc, &received.cores) else {
+    let Ok(mut staging) = Staging::new(alloc, STAGING_LEN) else {
         return refuse(report, Refusal::Memory);
     };
-    let status = outcome_status(&outcomes);
-    if status == Status::Done && write_object(&mut staging, output, received).is_err() {
+    let status = outcome_status(finished);
+    if status == Status::Done && write_object(&mut staging, output, header, finished).is_err() {
         return tell(report, Status::WriteFault);
     }
-    let reported = put_decode_report(report, &outcomes, received.packets);
+    let reported = put_decode_report(report, finished, packets);
     conclude(reported, status)
 }
 
-// How the blocks came out, and the buffer in front of the output.
-fn prepare(alloc: Global, cores: &[Core]) -> Result<(Vec<BlockOutcome>, Staging), NoMemory>
-    ensures outcomes { IfOk result (λ both. ComeOut cores.now both.0.items) }
-    ensures staging { IfOk result (λ both. both.1 ≡ record { bytes = []; room = 262144 }) }
-{
-    let outcomes = block_outcomes(alloc, cores)?;
-    let staging = Staging::new(alloc, STAGING_LEN)?;
-    Ok((outcomes, staging))
-}
-
-// Writes the object, of which the decoders keep all source symbols, by a staging buffer in which
-// nothing waits.
-fn write_object<K: Sink>(
+// Writes the object, of which each block has its source, by a staging buffer in which nothing
+// waits.
+fn write_object<K: Sink, W: Watch>(
     staging: &mut Staging,
     sink: &mut K,
-    received: &Received,
+    header: &Header,
+    finished: &Finished<W>,
 ) -> Result<(), WriteFailed>
     requires empty { staging.old.bytes ≡ [] }
     requires room { 65535 ≤ staging.old.room }
-    requires known { HaveAllSource received.now.cores.items }
-    ensures written { OnOk result (Appends (K.held sink.old) (K.held sink.new) (kept_object received.now.cores.items received.now.header.oti.length)) }
-    ensures cut { OnErr result (AppendsFront (K.held sink.old) (K.held sink.new) (kept_object received.now.cores.items received.now.header.oti.length)) }
+    requires counted { length finished.now.outcomes ≡ length (source_counts header.now) }
+    requires known { HaveSource header.now finished.now.outcomes }
+    ensures written { OnOk result
+        (Appends (K.held sink.old) (K.held sink.new)
+        (object_of finished.now.outcomes header.now.oti.length)) }
+    ensures cut { OnErr result
+        (AppendsFront (K.held sink.old) (K.held sink.new)
+        (object_of finished.now.outcomes header.now.oti.length)) }
     ensures cause { HasCause (K.faults sink.old) (K.faults sink.new) result }
 {
-    put_object(
-        staging,
-        sink,
-        &received.cores,
-        received.header.oti().length as usize,
-    )?;
+    put_object(staging, sink, header, finished)?;
     staging.flush(sink)?;
     Ok(())
 }
 
 // Puts the source symbols of all blocks one after the other, cut to the object's length.
-fn put_object<K: Sink>(
+fn put_object<K: Sink, W: Watch>(
     staging: &mut Staging,
     sink: &mut K,
-    cores: &[Core],
-    size: usize,
+    header: &Header,
+    finished: &Finished<W>,
 ) -> Result<(), WriteFailed>
     requires room { 65535 ≤ staging.old.room }
-    requires known { HaveAllSource cores.now }
-    ensures passed { OnOk result (PassesOn (K.held sink.old) (K.held sink.new) staging.old.bytes staging.new.bytes (kept_object cores.now size)) }
-    ensures cut { OnErr result (AppendsFront (K.held sink.old) (K.held sink.new) (staging.old.bytes ++ kept_object cores.now size)) }
+    requires counted { length finished.now.outcomes ≡ length (source_counts header.now) }
+    requires known { HaveSource header.now finished.now.outcomes }
+    ensures passed { OnOk result
+        (PassesOn (K.held sink.old) (K.held sink.new) staging.old.bytes staging.new.bytes
+        (object_of finished.now.outcomes header.now.oti.length)) }
+    ensures cut { OnErr result
+        (AppendsFront (K.held sink.old) (K.held sink.new)
+        (staging.old.bytes ++ object_of finished.now.outcomes header.now.oti.length)) }
     ensures cause { HasCause (K.faults sink.old) (K.faults sink.new) result }
 {
-    let mut rest = size;
-    for core in cores {
-        rest = put_source(staging, sink, core, rest)?;
+    let mut rest = header.oti().length as usize;
+    for block in 0..finished.count() {
+        rest = put_source(
+            staging,
+            sink,
+            finished.outcome(block),
+            header.source_count(block),
+            rest,
+        )?;
     }
     Ok(())
 }
 
-// Puts the source symbols of a block one after the other, cut to what is left of the object. Says
+// Puts the k source symbols of a block one after the other, cut to what is left of the object. Says
 // how much is left behind them.
 fn put_source<K: Sink>(
     staging: &mut Staging,
     sink: &mut K,
-    core: &Core,
+    outcome: &Outcome,
+    k: u32,
     size: usize,
 ) -> Result<usize, WriteFailed>
     requires room { 65535 ≤ staging.old.room }
-    requires known { HasAllSource core.now }
-    ensures passed { OnOk result (PassesOn (K.held sink.old) (K.held sink.new) staging.old.bytes staging.new.bytes (take size (source_bytes core.now))) }
-    ensures left { IfOk result (λ rest. rest ≡ size - length (source_bytes core.now)) }
-    ensures cut { OnErr result (AppendsFront (K.held sink.old) (K.held sink.new) (staging.old.bytes ++ take size (source_bytes core.now))) }
+    requires known { HasSource k outcome.now }
+    ensures passed { OnOk result
+        (PassesOn (K.held sink.old) (K.held sink.new) staging.old.bytes staging.new.bytes
+        (take size (source_bytes outcome.now))) }
+    ensures left { IfOk result (λ rest. rest ≡ size - length (source_bytes outcome.now)) }
+    ensures cut { OnErr result
+        (AppendsFront (K.held sink.old) (K.held sink.new)
+        (staging.old.bytes ++ take size (source_bytes outcome.now))) }
+    ensures room { staging.new.room ≡ staging.old.room }
+    ensures cause { HasCause (K.faults sink.old) (K.faults sink.new) result }
+{
+    match outcome {
+        Outcome::Block(block) => put_symbols(staging, sink, block, k, size),
+        _ => unreachable!(),
+    }
+}
+
+// Puts the symbols of a source block one after the other, cut to what is left of the object.
+fn put_symbols<K: Sink>(
+    staging: &mut Staging,
+    sink: &mut K,
+    block: &SourceBlock,
+    k: u32,
+    size: usize,
+) -> Result<usize, WriteFailed>
+    requires room { 65535 ≤ staging.old.room }
+    requires counted { k ≡ length block.now.source }
+    ensures passed { OnOk result
+        (PassesOn (K.held sink.old) (K.held sink.new) staging.old.bytes staging.new.bytes
+        (take size (flat_map (λ symbol. symbol) block.now.source))) }
+    ensures left { IfOk result (λ rest. rest
+        ≡ size - length (flat_map (λ symbol. symbol) block.now.source)) }
+    ensures cut { OnErr result
+        (AppendsFront (K.held sink.old) (K.held sink.new)
+        (staging.old.bytes ++ take size (flat_map (λ symbol. symbol) block.now.source))) }
     ensures room { staging.new.room ≡ staging.old.room }
     ensures cause { HasCause (K.faults sink.old) (K.faults sink.new) result }
 {
     let mut rest = size;
-    for position in 0..core.code().k() {
-        let Some(symbol) = core.symbol(position) else {
-            unreachable!()
-        };
+    for position in 0..k {
+        let symbol = block.symbol(position);
         let len = rest.min(symbol.len());
         staging.put(sink, &symbol[..len])?;
         rest -= len;

@@ -1,16 +1,19 @@
 // The `encode` of an object: its packet file, made ready and written.
-ghost use Rattle.std.specs.Prelude.{◌≡◌, ◌≢◌, ◌≤◌, ◌<◌, ◌⊎◌, ◌++◌, [], ℕ, List, All, length, vec_len, sum_by, IfOk, IfErr, OnOk, OnErr};
+ghost use Rattle.std.specs.Prelude.{◌≡◌, ◌≢◌, ◌≤◌, ◌<◌, ◌⊎◌, ◌++◌, [], ℕ, List, All, length};
+ghost use Rattle.std.specs.Prelude.{vec_len, sum_by, IfOk, IfErr, OnOk, OnErr};
 ghost use Rattle.std.specs.Io.KnownBytes.{Appends, Keeps};
 ghost use Rattle.tool_base.specs.Commands.{IsInRange};
 ghost use Rattle.fec_base.specs.Bytes.{AppendsFront};
 ghost use Rattle.fec_base.specs.Causes.{HasCause};
 ghost use Rattle.packet_file.specs.Header.{header_bytes};
+ghost use Rattle.eperftool.specs.EncodeRun.{IsEncodeRun, ReadsObject, RefusesEncode};
 ghost use Rattle.eperftool.specs.File.{encode_report, packets};
-ghost use Rattle.eperftool.specs.Options.{encode_command, header_for};
 ghost use Rattle.eperftool.specs.Made.{AreWords, IsMade, IsReady, RefusesMaking};
-ghost use Rattle.eperftool.specs.Refused.{IsRefused, ReadsObject, RefusesEncode, refusal_status, refusal_text};
+ghost use Rattle.eperftool.specs.Options.{encode_command, header_for};
+ghost use Rattle.eperftool.specs.Outside.{seen, stream};
+ghost use Rattle.eperftool.specs.Refusals.{refusal_text};
+ghost use Rattle.eperftool.specs.Written.{AppendsPart, IsCut, IsTold, TakesSome};
 ghost use Rattle.eperftool.specs.declared.refusal.Refusal.TheVariants.{Memory};
-ghost use Rattle.eperftool.specs.Run.{AppendsPart, EncodesBy, IsCut, IsTold, TakesSome};
 
 use crate::{
     EncodeOptions, Refusal, Staging, WriteRefusal, build_codes, conclude, put_numbered,
@@ -44,18 +47,11 @@ pub fn encode<S: Source, K: Sink, R: Sink>(
     report: &mut R,
 ) -> Status
     requires { IsInRange (encode_command options.now) }
-    ensures done { result ≡ Status.Done → (file : List ℕ) × (text : List ℕ) × EncodesBy options.now (S.left input.old) (S.left input.new) file text
-        × Appends (K.held output.old) (K.held output.new) file × Appends (R.held report.old) (R.held report.new) text }
-    ensures cut { result ≡ Status.WriteFault → (file : List ℕ) × (text : List ℕ) × EncodesBy options.now (S.left input.old) (S.left input.new) file text
-        × IsCut file text (K.held output.old) (K.held output.new) (K.faults output.old) (K.faults output.new) (R.held report.old) (R.held report.new) (R.faults report.old) (R.faults report.new) }
-    ensures refused { IsRefused result → (refusal : Refusal) × (result ≡ refusal_status refusal)
-        × RefusesEncode options.now (S.left input.old) (S.left input.new) (S.faults input.old) (S.faults input.new) refusal
-        × IsTold (refusal_text refusal) (R.held report.old) (R.held report.new) (R.faults report.old) (R.faults report.new) }
-    ensures unwritten { IsRefused result → result ≢ Status.Memory → Keeps (K.held output.old) (K.held output.new) }
-    ensures memory { result ≡ Status.Memory → Keeps (K.held output.old) (K.held output.new)
-        ⊎ ((file : List ℕ) × (text : List ℕ) × EncodesBy options.now (S.left input.old) (S.left input.new) file text × AppendsPart (K.held output.old) (K.held output.new) file) }
-    ensures ends { (IsRefused result) ⊎ ((result ≡ Status.Done) ⊎ (result ≡ Status.WriteFault)) }
-    ensures taken { TakesSome (S.left input.old) (S.left input.new) }
+    ensures { IsEncodeRun options.now
+        (seen (S.left input.old) (S.faults input.old) (K.held output.old) (K.faults output.old)
+        (R.held report.old) (R.faults report.old))
+        (seen (S.left input.new) (S.faults input.new) (K.held output.new) (K.faults output.new)
+        (R.held report.new) (R.faults report.new)) result }
 {
     match read_and_make(alloc, options, input) {
         Ok(made) => deliver(alloc, made, output, report),
@@ -70,8 +66,12 @@ fn read_and_make<S: Source>(
     input: &mut S,
 ) -> Result<Made, Refusal>
     requires { IsInRange (encode_command options.now) }
-    ensures object { IfOk result (λ made. (object : List ℕ) × ReadsObject options.now (S.left input.old) (S.left input.new) object × IsMade (header_for options.now (length object)) options.now.shape.draws object made) }
-    ensures refusal { IfErr result (RefusesEncode options.now (S.left input.old) (S.left input.new) (S.faults input.old) (S.faults input.new)) }
+    ensures object { IfOk result (λ made. (object : List ℕ)
+        × ReadsObject options.now (S.left input.old) (S.left input.new) object
+        × IsMade (header_for options.now (length object)) options.now.shape.draws object made) }
+    ensures refusal { IfErr result (RefusesEncode options.now
+        (stream (S.left input.old) (S.faults input.old))
+        (stream (S.left input.new) (S.faults input.new))) }
     ensures taken { TakesSome (S.left input.old) (S.left input.new) }
 {
     let object = read_object(alloc, input)?;
@@ -82,7 +82,8 @@ fn read_and_make<S: Source>(
 fn make_file(alloc: Global, options: &EncodeOptions, mut object: Vec<u8>) -> Result<Made, Refusal>
     requires range { IsInRange (encode_command options.now) }
     requires most { vec_len object ≤ 268435456 }
-    ensures made { IfOk result (IsMade (header_for options.now (vec_len object)) options.now.shape.draws object.items) }
+    ensures made { IfOk result
+        (IsMade (header_for options.now (vec_len object)) options.now.shape.draws object.items) }
     ensures refusal { IfErr result (RefusesMaking options.now object.items) }
 {
     let header = options.header(object.len() as u64)?;
@@ -104,16 +105,29 @@ fn deliver<K: Sink, R: Sink>(alloc: Global, made: Made, output: &mut K, report: 
     requires ready { IsReady made.header made.codes.items made.object.items }
     requires empty { made.staging.bytes ≡ [] }
     requires room { made.staging.room ≡ 262144 }
-    ensures done { result ≡ Status.Done → (words : List (List (List ℕ))) → AreWords made.header made.codes.items made.object.items words
-        → Appends (K.held output.old) (K.held output.new) (header_bytes made.header ++ packets words)
-        × Appends (R.held report.old) (R.held report.new) (encode_report (length words) (sum_by length words)) }
-    ensures cut { result ≡ Status.WriteFault → (words : List (List (List ℕ))) → AreWords made.header made.codes.items made.object.items words
-        → IsCut (header_bytes made.header ++ packets words) (encode_report (length words) (sum_by length words))
-        (K.held output.old) (K.held output.new) (K.faults output.old) (K.faults output.new) (R.held report.old) (R.held report.new) (R.faults report.old) (R.faults report.new) }
-    ensures memory { result ≡ Status.Memory → (words : List (List (List ℕ))) → AreWords made.header made.codes.items made.object.items words
-        → AppendsPart (K.held output.old) (K.held output.new) (header_bytes made.header ++ packets words) }
-    ensures told { result ≡ Status.Memory → IsTold (refusal_text Memory) (R.held report.old) (R.held report.new) (R.faults report.old) (R.faults report.new) }
-    ensures ends { (result ≡ Status.Memory) ⊎ ((result ≡ Status.Done) ⊎ (result ≡ Status.WriteFault)) }
+    ensures done { result ≡ Status.Done → (words : List (List (List ℕ)))
+        → AreWords made.header made.codes.items made.object.items words
+        → Appends (K.held output.old) (K.held output.new)
+        (header_bytes made.header ++ packets words)
+        × Appends (R.held report.old) (R.held report.new)
+        (encode_report (length words) (sum_by length words)) }
+    ensures cut { result ≡ Status.WriteFault → (words : List (List (List ℕ)))
+        → AreWords made.header made.codes.items made.object.items words
+        → IsCut (header_bytes made.header ++ packets words)
+        (encode_report (length words) (sum_by length words))
+        (stream (K.held output.old) (K.faults output.old))
+        (stream (K.held output.new) (K.faults output.new))
+        (stream (R.held report.old) (R.faults report.old))
+        (stream (R.held report.new) (R.faults report.new)) }
+    ensures memory { result ≡ Status.Memory → (words : List (List (List ℕ)))
+        → AreWords made.header made.codes.items made.object.items words
+        → AppendsPart (K.held output.old) (K.held output.new)
+        (header_bytes made.header ++ packets words) }
+    ensures told { result ≡ Status.Memory → IsTold (refusal_text Memory)
+        (stream (R.held report.old) (R.faults report.old))
+        (stream (R.held report.new) (R.faults report.new)) }
+    ensures ends { (result ≡ Status.Memory)
+        ⊎ ((result ≡ Status.Done) ⊎ (result ≡ Status.WriteFault)) }
     ensures bytes { All (λ byte. byte < 256) made.object.items }
 {
     let Made {
@@ -133,8 +147,10 @@ fn deliver<K: Sink, R: Sink>(alloc: Global, made: Made, output: &mut K, report: 
 
 // Reports how many blocks and packets were written.
 fn put_encode_report<R: Sink>(report: &mut R, blocks: u32, packets: u64) -> Result<(), WriteFailed>
-    ensures written { OnOk result (Appends (R.held report.old) (R.held report.new) (encode_report blocks packets)) }
-    ensures cut { OnErr result (AppendsFront (R.held report.old) (R.held report.new) (encode_report blocks packets)) }
+    ensures written { OnOk result
+        (Appends (R.held report.old) (R.held report.new) (encode_report blocks packets)) }
+    ensures cut { OnErr result
+        (AppendsFront (R.held report.old) (R.held report.new) (encode_report blocks packets)) }
     ensures cause { HasCause (R.faults report.old) (R.faults report.new) result }
 {
     put_numbered(report, "blocks ", blocks as u64)?;

@@ -1,22 +1,25 @@
 // How a run ends.
 ghost use Rattle.std.specs.Prelude.{◌≡◌, ◌≢◌, ◌⊎◌, OnOk, OnErr};
 ghost use Rattle.tool_base.specs.Status.{fault_text};
-ghost use Rattle.eperftool.specs.Run.{IsTold};
+ghost use Rattle.eperftool.specs.Outside.{stream};
+ghost use Rattle.eperftool.specs.Written.{IsTold};
 
 use fec_base::{Sink, Watch, WriteFailed};
 use tool_base::{Status, put_text};
 
 /// How a run ended, and the watch that was handed in.
 #[derive(Drop)]
-pub struct Ended {
+pub struct Ended<W = Box<dyn Watch>> {
     pub status: Status,
-    pub watch: Box<dyn Watch>,
+    pub watch: W,
 }
 
 /// Ends a run with a status whose report goes by nothing else: it takes the text as far as it can.
 pub fn tell<R: Sink>(report: &mut R, status: Status) -> Status
     ensures status { result ≡ status }
-    ensures told { IsTold (fault_text status) (R.held report.old) (R.held report.new) (R.faults report.old) (R.faults report.new) }
+    ensures told { IsTold (fault_text status)
+        (stream (R.held report.old) (R.faults report.old))
+        (stream (R.held report.new) (R.faults report.new)) }
 {
     let _ = put_text(report, status.fault_text());
     status

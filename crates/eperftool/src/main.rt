@@ -1,8 +1,8 @@
 //! The program `eperftool`: words and an input in, a packet file or its object and a report out.
-//! `run` is its top call, whose contract says what a user gets; `main` hands it the standard streams.
-//! It stands on `tool_base` for the words and for the code of a block, on `packet_file` for headers
-//! and packets, on `fec_session` for codewords and decoders, on `peeling` and `sparse_rows` for the
-//! definitions that its contracts cite, and on `fec_base` for the outside.
+//! `run` is its top call, whose contract says what a user gets; `main` hands it the standard
+//! streams. It stands on `tool_base` for the words and for the code of a block, on `packet_file`
+//! for headers and packets, on `fec_session` for codewords and decoders, on `peeling` and
+//! `sparse_rows` for the definitions that its contracts cite, and on `fec_base` for the outside.
 #![tactic(auto)]
 
 mod block_codes;
@@ -20,17 +20,15 @@ mod run;
 mod staging;
 mod write;
 
-pub use block_codes::{build_codes, find_code};
+pub use block_codes::{block_codes, build_codes, find_code};
 pub use decode::decode;
 pub use encode::{Made, STAGING_LEN, encode};
 pub use ending::{Ended, conclude, tell};
-use fec_base::{NoMemory, QuietWatch, ReadSource, Watch, Words, WriteSink};
-pub use laws::{
-    one_encoding_for_each_object, one_outcome_for_each_file, one_reading_for_each_file,
-};
+use fec_base::{NoMemory, ProgressWatch, ReadSource, Watch, Words, WriteSink};
+pub use laws::{one_encoding_for_each_object, one_reading_for_each_file};
 pub use object::read_object;
 pub use options::{EncodeOptions, is_later};
-pub use outcome::{BlockOutcome, block_outcomes, outcome_status, put_decode_report};
+pub use outcome::{outcome_status, put_decode_report};
 pub use receive::{Received, receive};
 pub use refusal::{Refusal, refuse};
 use report::put_numbered;
@@ -68,7 +66,7 @@ fn collect_words(rt: &HostRuntime) -> Result<Words, u8> {
 // and the error of a last flush would be lost.
 fn run_on_streams(rt: &HostRuntime, words: &Words) -> Status {
     let alloc: Global = rt.alloc();
-    let watch: Box<dyn Watch> = match Box::new(alloc, QuietWatch) {
+    let watch: Box<dyn Watch> = match Box::new(alloc, ProgressWatch::new(rt.stderr())) {
         Ok(watch) => watch,
         Err(_) => return Status::Memory,
     };

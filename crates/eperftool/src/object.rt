@@ -5,7 +5,8 @@ ghost use Rattle.packet_file.specs.declared.fault.Limit.TheVariants.{Length};
 ghost use Rattle.packet_file.specs.declared.fault.FileFault.TheVariants.{TooLarge};
 ghost use Rattle.eperftool.specs.declared.refusal.Refusal.TheVariants.{Memory, File};
 ghost use Rattle.eperftool.specs.Object.{RefusesObject, RefusesPiece};
-ghost use Rattle.eperftool.specs.Run.{TakesSome, TakesBehind};
+ghost use Rattle.eperftool.specs.Receiving.{TakesBehind};
+ghost use Rattle.eperftool.specs.Written.{TakesSome};
 
 use crate::Refusal;
 use fec_base::{ReadFailed, Source, read_full};
@@ -20,13 +21,17 @@ const MOST_BYTES: usize = 268_435_456;
 
 const TOO_LONG: Refusal = Refusal::File(FileFault::TooLarge(Limit::Length));
 
-/// The whole input, where it has at most 268,435,456 bytes. It is read in pieces of 65,536 bytes, so
-/// that memory grows with the input; where there are more bytes, the piece that shows it is the last.
+/// The whole input, where it has at most 268,435,456 bytes. It is read in pieces of 65,536 bytes,
+/// so that memory grows with the input; where there are more bytes, the piece that shows it is the
+/// last.
 pub fn read_object<S: Source>(alloc: Global, input: &mut S) -> Result<Vec<u8>, Refusal>
     ensures bound { IfOk result (λ object. vec_len object ≤ 268435456) }
-    ensures bytes { IfOk result (λ object. Consumes (S.left input.old) (S.left input.new) object.items) }
+    ensures bytes { IfOk result (λ object.
+        Consumes (S.left input.old) (S.left input.new) object.items) }
     ensures end { OnOk result (IsAtEnd (S.left input.new)) }
-    ensures refusal { IfErr result (λ refusal. RefusesObject (S.left input.old) (S.left input.new) (S.faults input.old) (S.faults input.new) refusal) }
+    ensures refusal { IfErr result
+        (λ refusal. RefusesObject (S.left input.old) (S.left input.new) (S.faults input.old)
+        (S.faults input.new) refusal) }
     ensures taken { TakesSome (S.left input.old) (S.left input.new) }
 {
     let mut object = Vec::new(alloc);
@@ -50,7 +55,8 @@ fn new_piece(alloc: Global, len: usize) -> Result<Vec<u8>, Refusal>
 // The object, where it isn't longer than an object may be.
 fn check_length(object: Vec<u8>) -> Result<Vec<u8>, Refusal>
     ensures ok { IfOk result (λ same. (same ≡ object) × (vec_len object ≤ 268435456)) }
-    ensures err { OnErr result ((result ≡ Err (File (TooLarge Length))) × (268435456 < vec_len object)) }
+    ensures err { OnErr result ((result ≡ Err (File (TooLarge Length)))
+        × (268435456 < vec_len object)) }
 {
     if object.len() > MOST_BYTES {
         return Err(TOO_LONG);
@@ -67,9 +73,11 @@ fn take_piece<S: Source>(
 ) -> Result<usize, Refusal>
     ensures bound { IfOk result (λ taken. taken ≤ length piece.new) }
     ensures len { IfOk result (λ taken. vec_len object.new ≡ vec_len object.old + taken) }
-    ensures bytes { OnOk result (TakesBehind (S.left input.old) (S.left input.new) object.old.items object.new.items) }
+    ensures bytes { OnOk result
+        (TakesBehind (S.left input.old) (S.left input.new) object.old.items object.new.items) }
     ensures end { IfOk result (λ taken. taken < length piece.new → IsAtEnd (S.left input.new)) }
-    ensures refusal { IfErr result (λ refusal. RefusesPiece (S.faults input.old) (S.faults input.new) refusal) }
+    ensures refusal { IfErr result (λ refusal.
+        RefusesPiece (S.faults input.old) (S.faults input.new) refusal) }
     ensures taken { OnErr result (TakesSome (S.left input.old) (S.left input.new)) }
     ensures later { S.faults input.old ≤ S.faults input.new }
 {

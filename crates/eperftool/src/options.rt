@@ -9,8 +9,8 @@ use oti_fields::Oti;
 use packet_file::{FileFault, Header};
 use tool_base::Shape;
 
-/// The options of an `encode`: the code, the length of a symbol in bytes, and the greatest numbers of
-/// source symbols and of encoding symbols of a block.
+/// The options of an `encode`: the code, the length of a symbol in bytes, and the greatest numbers
+/// of source symbols and of encoding symbols of a block.
 #[derive(Clone, Copy, Debug, PartialEq, Eq)]
 pub struct EncodeOptions {
     pub shape: Shape,
@@ -20,7 +20,8 @@ pub struct EncodeOptions {
 }
 
 impl EncodeOptions {
-    /// The header of the file of an object of `length` bytes, or the first limit that its sizes pass.
+    /// The header of the file of an object of `length` bytes, or the first limit that its sizes
+    /// pass.
     pub fn header(&self, length: u64) -> Result<Header, FileFault>
         requires range { IsInRange (encode_command self.now) }
         requires most { length ≤ 268435456 }

@@ -3,12 +3,15 @@ ghost use Rattle.std.specs.Prelude.{◌≡◌, OnErr, OnOk, decimal};
 ghost use Rattle.std.specs.Io.KnownBytes.{Appends};
 ghost use Rattle.fec_base.specs.Bytes.{AppendsFront};
 ghost use Rattle.fec_base.specs.Causes.{HasCause};
-ghost use Rattle.eperftool.specs.Run.{IsTold};
-ghost use Rattle.eperftool.specs.Refused.{fault_status, file_fault_text, limit_text, packet_text, refusal_status, refusal_text};
-ghost use Rattle.eperftool.specs.declared.refusal.Refusal.TheVariants.{Memory, File};
+ghost use Rattle.eperftool.specs.Outside.{stream};
+ghost use Rattle.eperftool.specs.Refusals.{fault_status, file_fault_text, limit_text, packet_text};
+ghost use Rattle.eperftool.specs.Refusals.{refusal_status, refusal_text};
+ghost use Rattle.eperftool.specs.Written.{IsTold};
+ghost use Rattle.eperftool.specs.declared.refusal.Refusal.TheVariants.{Memory, File, Watch};
 
 use crate::put_numbered;
 use fec_base::{NoMemory, Sink, WriteFailed};
+use fec_session::WatchFault;
 use packet_file::{FileFault, Limit};
 use std::alloc::{AllocError, AllocFailed};
 use tool_base::{Status, put_number, put_text};
@@ -22,6 +25,8 @@ pub enum Refusal {
     File(FileFault),
     /// The code of this block takes more draws than there may be.
     Draws(u32),
+    /// The watch failed.
+    Watch,
 }
 
 impl From<NoMemory> for Refusal {
@@ -56,6 +61,14 @@ impl From<FileFault> for Refusal {
     }
 }
 
+impl From<WatchFault> for Refusal {
+    ghost from_gives = { λ _ refusal. refusal ≡ Watch };
+
+    fn from(_: WatchFault) -> Self {
+        Refusal::Watch
+    }
+}
+
 impl Refusal {
     /// The status of a run that ends so.
     pub fn status(self) -> Status
@@ -65,6 +78,7 @@ impl Refusal {
             Refusal::Memory => Status::Memory,
             Refusal::File(fault) => fault_status(fault),
             Refusal::Draws(_) => Status::Draws,
+            Refusal::Watch => Status::WatchFault,
         }
     }
 }
@@ -85,7 +99,9 @@ fn fault_status(fault: FileFault) -> Status
 /// Ends a run that is refused: the report says why, as far as it takes the text.
 pub fn refuse<R: Sink>(report: &mut R, refusal: Refusal) -> Status
     ensures status { result ≡ refusal_status refusal }
-    ensures told { IsTold (refusal_text refusal) (R.held report.old) (R.held report.new) (R.faults report.old) (R.faults report.new) }
+    ensures told { IsTold (refusal_text refusal)
+        (stream (R.held report.old) (R.faults report.old))
+        (stream (R.held report.new) (R.faults report.new)) }
 {
     let _ = put_refusal(report, refusal);
     refusal.status()
@@ -93,21 +109,26 @@ pub fn refuse<R: Sink>(report: &mut R, refusal: Refusal) -> Status
 
 // Reports a refusal.
 fn put_refusal<R: Sink>(report: &mut R, refusal: Refusal) -> Result<(), WriteFailed>
-    ensures written { OnOk result (Appends (R.held report.old) (R.held report.new) (refusal_text refusal)) }
-    ensures cut { OnErr result (AppendsFront (R.held report.old) (R.held report.new) (refusal_text refusal)) }
+    ensures written { OnOk result
+        (Appends (R.held report.old) (R.held report.new) (refusal_text refusal)) }
+    ensures cut { OnErr result
+        (AppendsFront (R.held report.old) (R.held report.new) (refusal_text refusal)) }
     ensures cause { HasCause (R.faults report.old) (R.faults report.new) result }
 {
     match refusal {
         Refusal::Memory => put_text(report, Status::Memory.fault_text()),
         Refusal::File(fault) => put_fault(report, fault),
         Refusal::Draws(block) => put_numbered(report, "fault: draws block ", block as u64),
+        Refusal::Watch => put_text(report, Status::WatchFault.fault_text()),
     }
 }
 
 // Reports a fault of a file.
 fn put_fault<R: Sink>(report: &mut R, fault: FileFault) -> Result<(), WriteFailed>
-    ensures written { OnOk result (Appends (R.held report.old) (R.held report.new) (file_fault_text fault)) }
-    ensures cut { OnErr result (AppendsFront (R.held report.old) (R.held report.new) (file_fault_text fault)) }
+    ensures written { OnOk result
+        (Appends (R.held report.old) (R.held report.new) (file_fault_text fault)) }
+    ensures cut { OnErr result
+        (AppendsFront (R.held report.old) (R.held report.new) (file_fault_text fault)) }
     ensures cause { HasCause (R.faults report.old) (R.faults report.new) result }
 {
     match fault {
@@ -160,8 +181,10 @@ fn put_packet_fault<R: Sink>(
     what: &str,
     number: u64,
 ) -> Result<(), WriteFailed>
-    ensures written { OnOk result (Appends (R.held report.old) (R.held report.new) (packet_text index what.now number)) }
-    ensures cut { OnErr result (AppendsFront (R.held report.old) (R.held report.new) (packet_text index what.now number)) }
+    ensures written { OnOk result
+        (Appends (R.held report.old) (R.held report.new) (packet_text index what.now number)) }
+    ensures cut { OnErr result
+        (AppendsFront (R.held report.old) (R.held report.new) (packet_text index what.now number)) }
     ensures cause { HasCause (R.faults report.old) (R.faults report.new) result }
 {
     put_text(report, "fault: packet ")?;

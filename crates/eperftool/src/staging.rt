@@ -3,7 +3,7 @@ ghost use Rattle.std.specs.Prelude.{◌≡◌, ◌≤◌, [], length, IfOk, OnOk
 ghost use Rattle.std.specs.Io.KnownBytes.{Appends};
 ghost use Rattle.fec_base.specs.Bytes.{AppendsFront};
 ghost use Rattle.fec_base.specs.Causes.{HasCause};
-ghost use Rattle.eperftool.specs.Staged.{PassesOn};
+ghost use Rattle.eperftool.specs.Staged.{PassesOn, Waiting};
 
 use fec_base::{NoMemory, Sink, WriteFailed, write_all};
 use std::alloc::Global;
@@ -41,8 +41,10 @@ impl Staging {
     /// for both. After a failure the sink has a front of those that waited.
     pub fn put<K: Sink>(&mut self, sink: &mut K, bytes: &[u8]) -> Result<(), WriteFailed>
         requires { length bytes.now ≤ self.old.room }
-        ensures passed { OnOk result (PassesOn (K.held sink.old) (K.held sink.new) self.old.bytes self.new.bytes bytes.now) }
-        ensures cut { OnErr result (AppendsFront (K.held sink.old) (K.held sink.new) self.old.bytes) }
+        ensures passed { OnOk result
+            (PassesOn (K.held sink.old) (K.held sink.new) self.old.bytes self.new.bytes bytes.now) }
+        ensures cut { OnErr result
+            (AppendsFront (K.held sink.old) (K.held sink.new) self.old.bytes) }
         ensures room { self.new.room ≡ self.old.room }
         ensures cause { HasCause (K.faults sink.old) (K.faults sink.new) result }
     {
@@ -57,9 +59,11 @@ impl Staging {
 
     /// Hands over what waits. After a failure the sink has a front of it.
     pub fn flush<K: Sink>(&mut self, sink: &mut K) -> Result<(), WriteFailed>
-        ensures appended { OnOk result (Appends (K.held sink.old) (K.held sink.new) self.old.bytes) }
+        ensures appended { OnOk result
+            (Appends (K.held sink.old) (K.held sink.new) self.old.bytes) }
         ensures empty { OnOk result (self.new.bytes ≡ []) }
-        ensures cut { OnErr result (AppendsFront (K.held sink.old) (K.held sink.new) self.old.bytes) }
+        ensures cut { OnErr result
+            (AppendsFront (K.held sink.old) (K.held sink.new) self.old.bytes) }
         ensures room { self.new.room ≡ self.old.room }
         ensures cause { HasCause (K.faults sink.old) (K.faults sink.new) result }
     {

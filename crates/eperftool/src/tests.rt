@@ -7,8 +7,10 @@ use tool_base::Status;
 
 mod damaged;
 mod faults;
+mod hostile;
+mod many;
 mod refused;
-mod verdicts;
+mod told;
 
 const THREE_OF_SEVEN: [&str; 4] = ["encode", "--symbol=1", "--block=3", "--max-n=7"];
 
@@ -23,7 +25,8 @@ const GRID: [&str; 5] = [
 // The file of 01 02 04 in a staircase of three source symbols and seven encoding symbols.
 const STAIRCASE_FILE: [u8; 61] =
     *b"OFPK\x01\x03\0\0\0\0\0\0\0\x03\0\x01\x01\0\0\x30\0\x07\0\0\0\x01\
-    \0\0\0\0\x01\0\0\0\x01\x02\0\0\0\x02\x04\0\0\0\x03\x05\0\0\0\x04\x03\0\0\0\x05\x04\0\0\0\x06\x07";
+    \0\0\0\0\x01\0\0\0\x01\x02\0\0\0\x02\x04\0\0\0\x03\x05\0\0\0\x04\x03\0\0\0\x05\x04\
+    \0\0\0\x06\x07";
 
 // The file of 01 02 04 08 10 in a grid of width 3.
 const GRID_FILE: [u8; 76] = *b"OFPK\x01\xc8\0\0\0\0\0\0\0\x05\0\x01\x01\0\0\x50\0\x0a\0\0\0\x03\
@@ -38,7 +41,8 @@ struct Left {
     report: MemSink,
 }
 
-// Runs the words over an input that fails after `stop` bytes, into an output and a report of some room.
+// Runs the words over an input that fails after `stop` bytes, into an output and a report of some
+// room.
 fn run_over(
     alloc: Global,
     words: &[&str],
@@ -344,6 +348,34 @@ fn an_object_of_one_symbol_has_no_repair_symbol(rt: HostRuntime) -> Result<(), F
     Ok(())
 }
 
+#[test]
+fn the_header_of_one_symbol_leaves_it_open(rt: HostRuntime) -> Result<(), Fail> {
+    let left = run_over(rt.alloc(), &["encode"], b"0123456789", None, 26, 100)?;
+    let open = "block 0 undetermined 0\npackets 0\n";
+    let undetermined = Status::Undetermined;
+    check(
+        &rt,
+        rt.alloc(),
+        &["decode"],
+        left.output.bytes(),
+        undetermined,
+        &[],
+        open,
+    )?;
+    Ok(())
+}
+
+#[test]
+fn an_output_without_room_holds_a_front(rt: HostRuntime) -> Result<(), Fail> {
+    let left = run_over(rt.alloc(), &["encode"], b"0123456789", None, 2000, 100)?;
+    let file = left.output.bytes();
+    let cut = run_over(rt.alloc(), &["decode"], file, None, 5, 100)?;
+    assert_eq!(rt; cut.status, Status::WriteFault);
+    assert_eq!(rt; cut.output.bytes(), b"01234".as_slice());
+    assert_eq!(rt; cut.report.bytes(), b"fault: write\n".as_slice());
+    Ok(())
+}
+
 // An object of so many bytes.
 fn counted(alloc: Global, len: u32) -> Result<Vec<u8>, Fail> {
     let mut object = Vec::new(alloc);
@@ -392,14 +424,34 @@ fn turned(alloc: Global, file: &[u8], from: usize, to: usize) -> Result<Vec<u8>,
 }
 
 #[test]
-fn one_block_of_three_is_stuck(rt: HostRuntime) -> Result<(), Fail> {
+fn one_block_of_three_is_undetermined(rt: HostRuntime) -> Result<(), Fail> {
     let alloc = rt.alloc();
     let object = counted(alloc, 1000)?;
     let left = run_over(alloc, &THREE_BLOCKS, &object, None, 2000, 100)?;
     // Two source symbols of the second block are lost.
     let file = turned(alloc, left.output.bytes(), 6, 8)?;
-    let stuck = "block 0 peeled\nblock 1 stuck\nblock 2 peeled\npackets 12\n";
-    check(&rt, alloc, &["decode"], &file, Status::Stuck, &[], stuck)?;
+    let open = "block 0 peeled\nblock 1 undetermined 0 1\nblock 2 peeled\npackets 12\n";
+    check(
+        &rt,
+        alloc,
+        &["decode"],
+        &file,
+        Status::Undetermined,
+        &[],
+        open,
+    )?;
+    let header = turned(alloc, left.output.bytes(), 0, 14)?;
+    let open = "block 0 undetermined 0 1\nblock 1 undetermined 0 1\n\
+        block 2 undetermined 0 1\npackets 0\n";
+    check(
+        &rt,
+        alloc,
+        &["decode"],
+        &header,
+        Status::Undetermined,
+        &[],
+        open,
+    )?;
     let file = turned(alloc, left.output.bytes(), 14, 14)?;
     let peeled = "block 0 peeled\nblock 1 peeled\nblock 2 peeled\npackets 14\n";
     check(
@@ -447,12 +499,7 @@ fn words_that_mean_no_command_are_usage(rt: HostRuntime) -> Result<(), Fail> {
 
 #[test]
 fn commands_that_come_later_are_unbuilt(rt: HostRuntime) -> Result<(), Fail> {
-    let cases: [&[&str]; 4] = [
-        &["lose", "--"],
-        &["show"],
-        &["perf", "--k=3", "--k=3"],
-        &["decode", "--early=yes"],
-    ];
+    let cases: [&[&str]; 3] = [&["lose", "--"], &["show"], &["perf", "--k=3", "--k=3"]];
     for words in cases {
         // The first read of this input would be a fault.
         let left = run_over(rt.alloc(), words, b"01234", Some(0), 200, 200)?;

@@ -1,5 +1,6 @@
 // A packet file, written block by block.
-ghost use Rattle.std.specs.Prelude.{◌≡◌, ◌≤◌, ◌<◌, ◌++◌, [], ℕ, List, length, slice_index_or, All, Err, IfOk, OnOk, OnErr};
+ghost use Rattle.std.specs.Prelude.{◌≡◌, ◌≤◌, ◌<◌, ◌++◌, [], ℕ, List, length, slice_index_or, All};
+ghost use Rattle.std.specs.Prelude.{Err, IfOk, OnOk, OnErr};
 ghost use Rattle.std.specs.Io.KnownBytes.{Appends};
 ghost use Rattle.fec_base.specs.Bytes.{AppendsFront};
 ghost use Rattle.fec_base.specs.Causes.{HasCause, Rose};
@@ -8,8 +9,8 @@ ghost use Rattle.packet_file.specs.Header.{header_bytes, source_counts};
 ghost use Rattle.packet_file.specs.Packets.{block_symbols, packet_bytes};
 ghost use Rattle.eperftool.specs.File.{block_packets, packets};
 ghost use Rattle.eperftool.specs.Made.{AreWords, IsReady};
-ghost use Rattle.eperftool.specs.Run.{AppendsPart};
 ghost use Rattle.eperftool.specs.Staged.{PassesOn, PassesPart};
+ghost use Rattle.eperftool.specs.Written.{AppendsPart};
 ghost use Rattle.eperftool.specs.declared.write.WriteRefusal.TheVariants.{Memory, Output};
 
 use crate::{Staging, find_code};
@@ -59,12 +60,19 @@ pub fn write_file<K: Sink>(
     requires ready { IsReady header.now codes.now object.now }
     requires empty { staging.old.bytes ≡ [] }
     requires room { staging.old.room ≡ 262144 }
-    ensures written { (words : List (List (List ℕ))) → AreWords header.now codes.now object.now words
-        → OnOk result (Appends (K.held sink.old) (K.held sink.new) (header_bytes header.now ++ packets words)) }
+    ensures written { (words : List (List (List ℕ)))
+        → AreWords header.now codes.now object.now words
+        → OnOk result
+        (Appends (K.held sink.old) (K.held sink.new)
+        (header_bytes header.now ++ packets words)) }
     ensures cut { (words : List (List (List ℕ))) → AreWords header.now codes.now object.now words
-        → result ≡ Err Output → AppendsFront (K.held sink.old) (K.held sink.new) (header_bytes header.now ++ packets words) }
+        → result ≡ Err Output
+        → AppendsFront (K.held sink.old) (K.held sink.new)
+        (header_bytes header.now ++ packets words) }
     ensures memory { (words : List (List (List ℕ))) → AreWords header.now codes.now object.now words
-        → result ≡ Err Memory → AppendsPart (K.held sink.old) (K.held sink.new) (header_bytes header.now ++ packets words) }
+        → result ≡ Err Memory
+        → AppendsPart (K.held sink.old) (K.held sink.new)
+        (header_bytes header.now ++ packets words) }
     ensures cause { result ≡ Err Output → Rose (K.faults sink.old) (K.faults sink.new) }
     ensures bytes { All (λ byte. byte < 256) object.now }
 {
@@ -86,11 +94,16 @@ fn put_blocks<K: Sink>(
     requires ready { IsReady header.now codes.now object.now }
     requires room { staging.old.room ≡ 262144 }
     ensures passed { (words : List (List (List ℕ))) → AreWords header.now codes.now object.now words
-        → OnOk result (PassesOn (K.held sink.old) (K.held sink.new) staging.old.bytes staging.new.bytes (packets words)) }
+        → OnOk result
+        (PassesOn (K.held sink.old) (K.held sink.new) staging.old.bytes staging.new.bytes
+        (packets words)) }
     ensures cut { (words : List (List (List ℕ))) → AreWords header.now codes.now object.now words
-        → result ≡ Err Output → AppendsFront (K.held sink.old) (K.held sink.new) (staging.old.bytes ++ packets words) }
+        → result ≡ Err Output
+        → AppendsFront (K.held sink.old) (K.held sink.new) (staging.old.bytes ++ packets words) }
     ensures memory { (words : List (List (List ℕ))) → AreWords header.now codes.now object.now words
-        → result ≡ Err Memory → PassesPart (K.held sink.old) (K.held sink.new) staging.old.bytes staging.new.bytes (packets words) }
+        → result ≡ Err Memory
+        → PassesPart (K.held sink.old) (K.held sink.new) staging.old.bytes staging.new.bytes
+        (packets words) }
     ensures cause { result ≡ Err Output → Rose (K.faults sink.old) (K.faults sink.new) }
     ensures later { K.faults sink.old ≤ K.faults sink.new }
 {
@@ -111,7 +124,8 @@ fn encode_source(
 ) -> Result<Coded, NoMemory>
     requires ready { IsReady header.now codes.now object.now }
     requires block { block < length (source_counts header.now) }
-    ensures word { (words : List (List (List ℕ))) → AreWords header.now codes.now object.now words → IfOk result (λ word. word ≡ slice_index_or words block []) }
+    ensures word { (words : List (List (List ℕ))) → AreWords header.now codes.now object.now words
+        → IfOk result (λ word. word ≡ slice_index_or words block []) }
     ensures counted { IfOk result (λ word. length word ≡ block_symbols header.now block) }
     ensures symbols { IfOk result (All (λ symbol. length symbol ≤ 65535)) }
 {
@@ -135,8 +149,12 @@ fn put_block<K: Sink>(
     requires counted { length word.now ≡ count }
     requires most { count ≤ 65536 }
     requires symbols { All (λ symbol. length symbol ≤ 65535) word.now }
-    ensures passed { OnOk result (PassesOn (K.held sink.old) (K.held sink.new) staging.old.bytes staging.new.bytes (block_packets block word.now)) }
-    ensures cut { OnErr result (AppendsFront (K.held sink.old) (K.held sink.new) (staging.old.bytes ++ block_packets block word.now)) }
+    ensures passed { OnOk result
+        (PassesOn (K.held sink.old) (K.held sink.new) staging.old.bytes staging.new.bytes
+        (block_packets block word.now)) }
+    ensures cut { OnErr result
+        (AppendsFront (K.held sink.old) (K.held sink.new)
+        (staging.old.bytes ++ block_packets block word.now)) }
     ensures room { staging.new.room ≡ staging.old.room }
     ensures cause { HasCause (K.faults sink.old) (K.faults sink.new) result }
 {
@@ -161,8 +179,12 @@ fn put_packet<K: Sink>(
     requires room { staging.old.room ≡ 262144 }
     requires id { FitsIdBits id }
     requires symbol { length symbol.now ≤ 65535 }
-    ensures passed { OnOk result (PassesOn (K.held sink.old) (K.held sink.new) staging.old.bytes staging.new.bytes (packet_bytes id symbol.now)) }
-    ensures cut { OnErr result (AppendsFront (K.held sink.old) (K.held sink.new) (staging.old.bytes ++ packet_bytes id symbol.now)) }
+    ensures passed { OnOk result
+        (PassesOn (K.held sink.old) (K.held sink.new) staging.old.bytes staging.new.bytes
+        (packet_bytes id symbol.now)) }
+    ensures cut { OnErr result
+        (AppendsFront (K.held sink.old) (K.held sink.new)
+        (staging.old.bytes ++ packet_bytes id symbol.now)) }
     ensures room { staging.new.room ≡ staging.old.room }
     ensures cause { HasCause (K.faults sink.old) (K.faults sink.new) result }
 {

@@ -94,10 +94,14 @@ fn packets_decide_how_a_block_comes_out(rt: HostRuntime) -> Result<(), Fail> {
         ),
         (
             &[(2, 4), (5, 7), (6, 0x18), (7, 9), (8, 0x12), (9, 4)],
-            Status::Stuck,
-            "block 0 stuck\npackets 6\n",
+            Status::Undetermined,
+            "block 0 undetermined 0 1 3 4\npackets 6\n",
         ),
-        (&[], Status::Stuck, "block 0 stuck\npackets 0\n"),
+        (
+            &[],
+            Status::Undetermined,
+            "block 0 undetermined 0 1 3 4\npackets 0\n",
+        ),
         (&[(2, 4), (9, 5)], Status::NoCodeword, contradicted),
         (&[(9, 5), (2, 4)], Status::NoCodeword, contradicted),
         (&[(2, 4), (2, 5)], Status::NoCodeword, contradicted),

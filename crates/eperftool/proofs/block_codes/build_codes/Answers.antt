@@ -1,6 +1,7 @@
 use Rattle.std.proofs.Common.{◌+◌, length, refl, sym, ap, ◌∙◌, subst, arith}
 use Rattle.std.proofs.lemmas.Result.{err_from_is_err_and}
-use Rattle.eperftool.specs.Codes.{HasSize, RefusesCodes, count_at}
+use Rattle.eperftool.specs.BuiltCodes.{HasSize, RefusesCodes}
+use Rattle.eperftool.specs.Codes.{count_at}
 use Rattle.eperftool.proofs.Building.{AreBuilt, built_same, built_next, refuses_next}
 use Rattle.eperftool.proofs.block_codes.build_codes.Goals as goal
 use Rattle.eperftool.proofs.block_codes.build_codes.Goals.{then-not-has_code+in_ok-build_code+in_ok-push, else-not-has_code}

@@ -1,81 +1,80 @@
-use Rattle.std.proofs.Common.{◌≡◌, Err, inr, refl, sym, ap, ◌∙◌, take, ⊎_elim}
+use Rattle.std.proofs.Common.{◌≡◌, List, [], inr, sym, ap, ◌∙◌, subst, ⊎_elim}
+use Rattle.std.proofs.KnownBytes.{Keeps-refl}
+use Rattle.sparse_rows.specs.Matrix.{Matrix}
+use Rattle.fec_session.specs.Session.{ComeOut}
+use Rattle.fec_session.specs.declared.outcome.Outcome.{Outcome}
 use Rattle.tool_base.specs.declared.status.Status.TheVariants as status
+use Rattle.eperftool.specs.DecodeRun.{Decided, Decodes, LacksMemory}
+use Rattle.eperftool.specs.Outcomes.{decode_report, object_of}
+use Rattle.eperftool.specs.Outside.{Hearing, Stream, hearing, stream}
+use Rattle.eperftool.specs.Told.{StandsAt}
 use Rattle.eperftool.specs.declared.refusal.Refusal.TheVariants.{Memory}
-use Rattle.eperftool.specs.Decoded.{decode_report, joined, kept_object}
-use Rattle.eperftool.proofs.Determined.{decodes, rebuilds, sources_of}
-use Rattle.eperftool.proofs.Ends.{no_other, wants_memory}
+use Rattle.eperftool.proofs.Determining.{decodes}
+use Rattle.eperftool.proofs.Ends.{no_other}
 use Rattle.eperftool.proofs.decode.decode.Goals as goal
 
-pub returns-in-Ok-clause-done : goal.returns-in-Ok-clause-done
-returns-in-Ok-clause-done g c is =
+pub finish-requires-clause-counted : goal.finish-requires-clause-counted
+finish-requires-clause-counted g c = c.in-Ok.ensures.received.cores.counted
+
+pub finish-requires-clause-sized : goal.finish-requires-clause-sized
+finish-requires-clause-sized g c =
+    let cores = c.in-Ok.ensures.received.cores in
+    λ b d lt. ap (λ (m : Matrix). m.k) (cores.matrix b d lt) ∙ cores.sources b lt
+
+pub returns-in-Ok-clause-decodes : goal.returns-in-Ok-clause-decodes
+returns-in-Ok-clause-decodes g c =
     let left = g.S.Source.left in
+    let told = g.W.Watch.told in
     let r = c.in-Ok.received in
     let received = c.in-Ok.ensures.received in
-    let ended = c.finish.ensures.done is in (
-      kept_object r.cores.items r.header.oti.length,
-      decode_report ended.0 r.packets,
-      rebuilds c.args.draws c.args.most (left c.args.input.now) (left c.receive.new.input) r received.0 received.1 ended.0 ended.2 ended.1,
-      ended.3,
-      ended.4,
-    )
+    let back = sym (ap told c.finish.ensures.watch) in
+    let input : Stream = stream (left c.args.input.now) (g.S.Source.faults c.args.input.now) in
+    let now : Stream = stream (left c.receive.new.input) (g.S.Source.faults c.receive.new.input) in
+    let watch : Hearing = hearing (told c.args.watch) (g.W.Watch.faults c.args.watch) in
+    let watch_now : Hearing = hearing (told c.finish.result.watch) (g.W.Watch.faults c.finish.result.watch) in
+    let whole : (outcomes : List Outcome) → ComeOut r.receiver.cores outcomes
+    → Decodes c.args.draws c.args.early c.args.most input.bytes now.bytes watch.told watch_now.told outcomes (object_of outcomes r.header.oti.length) (decode_report outcomes r.packets) =
+    λ outcomes out. subst (λ t. Decodes c.args.draws c.args.early c.args.most input.bytes now.bytes watch.told t outcomes (object_of outcomes r.header.oti.length) (decode_report outcomes r.packets)) back
+    (decodes c.args.draws c.args.early c.args.most input.bytes now.bytes watch.told (told r.receiver.watch) r.header r.receiver.cores r.packets received outcomes out) in
+    let lacks : LacksMemory c.args.draws c.args.early c.args.most input now watch watch_now =
+    inr (
+      r.header,
+      received.code,
+      received.packets,
+      received.mid,
+      received.opens,
+      subst (λ t. StandsAt r.header received.code c.args.early c.args.most received.mid now.bytes watch.told t received.packets []) back received.stands,
+      received.over,
+    ) in
+    record {
+      done = λ is.
+          let (outcomes, done, out, object, text) = c.finish.ensures.done is in
+          (record { outcomes = outcomes; object = object_of outcomes r.header.oti.length; text = decode_report outcomes r.packets; decodes = whole outcomes out; status = done }, object, text);
+      cut = λ is.
+          let (outcomes, done, out, cut) = c.finish.ensures.cut is in
+          (record { outcomes = outcomes; object = object_of outcomes r.header.oti.length; text = decode_report outcomes r.packets; decodes = whole outcomes out; status = done }, cut);
+      undecided = λ is.
+          let (outcomes, ended, out, text) = c.finish.ensures.undecided is in
+          (record { outcomes = outcomes; object = object_of outcomes r.header.oti.length; text = decode_report outcomes r.packets; decodes = whole outcomes out; status = ended }, text);
+      refused = λ refused. let want = c.finish.ensures.ends refused in (Memory, want, lacks, c.finish.ensures.memory want);
+      unwritten = c.finish.ensures.unwritten;
+      taken = c.receive.ensures.taken;
+      ends = c.finish.ensures.asked;
+    }
 
-pub returns-in-Ok-clause-cut : goal.returns-in-Ok-clause-cut
-returns-in-Ok-clause-cut g c is =
-    let left = g.S.Source.left in
-    let r = c.in-Ok.received in
-    let received = c.in-Ok.ensures.received in
-    let ended = c.finish.ensures.cut is in (
-      kept_object r.cores.items r.header.oti.length,
-      decode_report ended.0 r.packets,
-      rebuilds c.args.draws c.args.most (left c.args.input.now) (left c.receive.new.input) r received.0 received.1 ended.0 ended.2 ended.1,
-      ended.3,
-    )
-
-pub returns-in-Ok-clause-undecided : goal.returns-in-Ok-clause-undecided
-returns-in-Ok-clause-undecided g c is =
-    let left = g.S.Source.left in
-    let r = c.in-Ok.received in
-    let received = c.in-Ok.ensures.received in
-    let ended = c.finish.ensures.undecided is in
-    let object = take r.header.oti.length (joined (sources_of r.cores.items ended.0)) in (
-      ended.0,
-      object,
-      decode_report ended.0 r.packets,
-      ended.1,
-      decodes c.args.draws c.args.most (left c.args.input.now) (left c.receive.new.input) r received.0 received.1 ended.0 ended.2 object refl,
-      ended.3,
-    )
-
-pub returns-in-Ok-clause-refused : goal.returns-in-Ok-clause-refused
-returns-in-Ok-clause-refused g c is = let want = c.finish.ensures.ends is in (Memory, want, tt, c.finish.ensures.memory want)
-
-pub returns-in-Ok-clause-memory : goal.returns-in-Ok-clause-memory
-returns-in-Ok-clause-memory g c is =
-    let received = c.in-Ok.ensures.received in
-    inr (c.in-Ok.received.header, received.0, received.1.file)
-
-pub returns-in-Err-clause-done : goal.returns-in-Err-clause-done
-returns-in-Err-clause-done g c is = absurd (no_other c.in-Err.refusal c.refuse.result status.Done c.refuse.ensures.status is)
-
-pub returns-in-Err-clause-cut : goal.returns-in-Err-clause-cut
-returns-in-Err-clause-cut g c is = absurd (no_other c.in-Err.refusal c.refuse.result status.WriteFault c.refuse.ensures.status is)
-
-pub returns-in-Err-clause-undecided : goal.returns-in-Err-clause-undecided
-returns-in-Err-clause-undecided g c is = ⊎_elim
-    (λ (none : c.refuse.result ≡ status.NoCodeword). absurd (no_other c.in-Err.refusal c.refuse.result status.NoCodeword c.refuse.ensures.status none))
-    (λ (stuck : c.refuse.result ≡ status.Stuck). absurd (no_other c.in-Err.refusal c.refuse.result status.Stuck c.refuse.ensures.status stuck))
-    is
-
-pub returns-in-Err-clause-refused : goal.returns-in-Err-clause-refused
-returns-in-Err-clause-refused g c is = (c.in-Err.refusal, c.refuse.ensures.status, c.in-Err.ensures.refusal, c.refuse.ensures.told)
-
-pub returns-in-Err-clause-memory : goal.returns-in-Err-clause-memory
-returns-in-Err-clause-memory g c is =
-    let want : c.in-Err.refusal ≡ Memory = wants_memory c.in-Err.refusal (sym c.refuse.ensures.status ∙ is) in
-    let same : c.receive.result ≡ Err Memory = c.in-Err.is ∙ ap Err want in c.receive.ensures.memory same
-
-pub returns-in-Err-clause-ends : goal.returns-in-Err-clause-ends
-returns-in-Err-clause-ends g c = (
-  λ (usage : c.refuse.result ≡ status.Usage). no_other c.in-Err.refusal c.refuse.result status.Usage c.refuse.ensures.status usage,
-  λ (unbuilt : c.refuse.result ≡ status.Unbuilt). no_other c.in-Err.refusal c.refuse.result status.Unbuilt c.refuse.ensures.status unbuilt,
-)
+pub returns-in-Err-clause-decodes : goal.returns-in-Err-clause-decodes
+returns-in-Err-clause-decodes g c =
+    record {
+      done = λ is. absurd (no_other c.in-Err.refusal c.refuse.result status.Done c.refuse.ensures.status is);
+      cut = λ is. absurd (no_other c.in-Err.refusal c.refuse.result status.WriteFault c.refuse.ensures.status is);
+      undecided = ⊎_elim
+          (λ (none : c.refuse.result ≡ status.NoCodeword). absurd (no_other c.in-Err.refusal c.refuse.result status.NoCodeword c.refuse.ensures.status none))
+          (λ (several : c.refuse.result ≡ status.Undetermined). absurd (no_other c.in-Err.refusal c.refuse.result status.Undetermined c.refuse.ensures.status several));
+      refused = λ refused. (c.in-Err.refusal, c.refuse.ensures.status, c.in-Err.ensures.refusal, c.refuse.ensures.told);
+      unwritten = λ done cut. Keeps-refl (g.K.Sink.held c.args.output.now);
+      taken = c.receive.ensures.taken;
+      ends = (
+        λ (usage : c.refuse.result ≡ status.Usage). no_other c.in-Err.refusal c.refuse.result status.Usage c.refuse.ensures.status usage,
+        λ (unbuilt : c.refuse.result ≡ status.Unbuilt). no_other c.in-Err.refusal c.refuse.result status.Unbuilt c.refuse.ensures.status unbuilt,
+      );
+    }

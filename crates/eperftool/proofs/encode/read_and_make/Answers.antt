@@ -1,13 +1,14 @@
 use Rattle.std.proofs.Common.{sym, subst}
 use Rattle.std.proofs.lemmas.Result.{err_from_is_err_and}
-use Rattle.eperftool.specs.Refused.{RefusesEncode}
+use Rattle.eperftool.specs.EncodeRun.{RefusesEncode}
+use Rattle.eperftool.specs.Outside.{Stream, stream}
 use Rattle.eperftool.proofs.ObjectRead.{refuses_input}
 use Rattle.eperftool.proofs.encode.read_and_make.Goals as goal
 
 pub returns-in_err-object-clause-refusal : goal.returns-in_err-object-clause-refusal
 returns-in_err-object-clause-refusal g c =
-    let left = g.S.Source.left in
-    let faults = g.S.Source.faults in
+    let input : Stream = stream (g.S.Source.left c.args.input.now) (g.S.Source.faults c.args.input.now) in
+    let now : Stream = stream (g.S.Source.left c.read_object.new.input) (g.S.Source.faults c.read_object.new.input) in
     let p = err_from_is_err_and c.from_residual.result c.from_residual.ensures.1 in
-    let refuses = refuses_input c.args.options.now (left c.args.input.now) (left c.read_object.new.input) (faults c.args.input.now) (faults c.read_object.new.input) c.in_err-object.field-0.0 c.in_err-object.ensures.refusal in
-    rw p.1 (subst (RefusesEncode c.args.options.now (left c.args.input.now) (left c.read_object.new.input) (faults c.args.input.now) (faults c.read_object.new.input)) (sym p.2) refuses)
+    let refuses = refuses_input c.args.options.now input now c.in_err-object.field-0.0 c.in_err-object.ensures.refusal in
+    rw p.1 (subst (RefusesEncode c.args.options.now input now) (sym p.2) refuses)

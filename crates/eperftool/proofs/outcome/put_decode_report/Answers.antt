@@ -1,8 +1,8 @@
 use Rattle.std.proofs.Common.{decimal, subst}
 use Rattle.std.specs.Prelude.{codes}
 use Rattle.fec_base.specs.Bytes.{AppendsFront}
-use Rattle.eperftool.specs.Decoded.{block_lines}
-use Rattle.eperftool.specs.Refused.{numbered}
+use Rattle.eperftool.specs.Outcomes.{block_lines}
+use Rattle.eperftool.specs.Refusals.{numbered}
 use Rattle.eperftool.proofs.Passing.{on_err}
 use Rattle.eperftool.proofs.Reports.{cut_behind, numbered_behind}
 use Rattle.eperftool.proofs.outcome.put_decode_report.Goals as goal
@@ -11,7 +11,7 @@ pub returns-in_err-put_numbered-clause-cut : goal.returns-in_err-put_numbered-cl
 returns-in_err-put_numbered-clause-cut g c =
     let held = g.R.Sink.held in
     let now = held c.put_numbered.new.report in
-    let lines = block_lines c.args.outcomes.now in
+    let lines = block_lines c.args.finished.now.outcomes in
     on_err _ _ (subst (AppendsFront (held c.args.report.now) now) (numbered_behind lines (codes "packets ") (decimal c.args.packets) (codes "\n"))
     (cut_behind (held c.args.report.now) (held c.put_block_lines.new.report) now lines (numbered (codes "packets ") c.args.packets)
     c.in_ok-put_block_lines.ensures.written c.in_err-put_numbered.ensures.cut))

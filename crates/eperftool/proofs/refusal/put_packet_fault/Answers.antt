@@ -1,6 +1,6 @@
 use Rattle.std.proofs.Common.{◌++◌, decimal}
 use Rattle.std.specs.Prelude.{codes}
-use Rattle.eperftool.specs.Refused.{numbered}
+use Rattle.eperftool.specs.Refusals.{numbered}
 use Rattle.eperftool.proofs.Passing.{cut_longer, on_err}
 use Rattle.eperftool.proofs.Reports.{cut_between, cut_third, written_third}
 use Rattle.eperftool.proofs.refusal.put_packet_fault.Goals as goal

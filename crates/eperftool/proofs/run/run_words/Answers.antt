@@ -1,28 +1,35 @@
-use Rattle.std.proofs.Common.{[], inl, arith, rules, sym, subst}
-use Rattle.std.proofs.KnownBytes.{Consumes-nil, Keeps-refl}
-use Rattle.tool_base.specs.Status.{fault_text}
-use Rattle.tool_base.specs.declared.status.Status.{Status}
-use Rattle.eperftool.specs.Options.{Asks}
-use Rattle.eperftool.specs.Run.{AsksDecode, IsTold}
-use Rattle.eperftool.specs.declared.options.EncodeOptions.{EncodeOptions}
+use Rattle.std.proofs.Common.{◌≡◌, Some, None, rules, refl, sym, ◌∙◌}
+use Rattle.tool_base.specs.Commands.{command_of}
+use Rattle.tool_base.specs.declared.command.Command.TheVariants as command
+use Rattle.eperftool.proofs.Running.{runs_asked, runs_later, runs_out, runs_unbuilt, runs_usage}
 use Rattle.eperftool.proofs.run.run_words.Goals as goal
 
-pub returns-in-Err-clause-memory : goal.returns-in-Err-clause-memory
-returns-in-Err-clause-memory g c is = (
-  inl (Keeps-refl (g.K.Sink.held c.args.output.now), λ draws most asks. inl ([], Consumes-nil (g.S.Source.left c.args.input.now), omega arith)),
-  subst (λ (s : Status). IsTold (fault_text s) (g.R.Sink.held c.args.report.now) (g.R.Sink.held c.refuse.new.report) (g.R.Sink.faults c.args.report.now) (g.R.Sink.faults c.refuse.new.report))
-      (sym c.refuse.ensures.status) c.refuse.ensures.told,
-)
+pub returns-then-is_later-clause-runs : goal.returns-then-is_later-clause-runs
+returns-then-is_later-clause-runs g c = runs_later c.args.words.now _ _ _ _ _ (sym c.is_later.ensures ∙ c.if-is_later.true) (runs_unbuilt _ _ c.tell-status.result c.tell-status.ensures.status c.tell-status.ensures.told)
 
-pub returns-in-Ok-Some-Encode-clause-refused : goal.returns-in-Ok-Some-Encode-clause-refused
-returns-in-Ok-Some-Encode-clause-refused g c refused other =
-    let o : EncodeOptions = record { shape = c.in-Ok-Some-Encode.shape; symbol = c.in-Ok-Some-Encode.symbol; block = c.in-Ok-Some-Encode.block; max_n = c.in-Ok-Some-Encode.max_n } in
-    let asks : Asks c.args.words.now o = search rules in
-    let (refusal, status, cause, told) = c.encode.ensures.refused refused in
-    (refusal, status, inl (o, asks, cause), told)
+pub returns-in-Err-clause-runs : goal.returns-in-Err-clause-runs
+returns-in-Err-clause-runs g c =
+    runs_asked c.args.words.now _ _ _ _ _ (sym c.is_later.ensures ∙ c.if-is_later.false) (command_of c.args.words.now) refl
+    (runs_out _ _ _ (command_of c.args.words.now) c.refuse-status.result c.refuse-status.ensures.status c.refuse-status.ensures.told)
 
-pub returns-in-Ok-Some-Decode-clause-undecided : goal.returns-in-Ok-Some-Decode-clause-undecided
-returns-in-Ok-Some-Decode-clause-undecided g c undecided =
-    let asks : AsksDecode c.args.words.now c.in-Ok-Some-Decode.draws c.in-Ok-Some-Decode.packets = search rules in
-    let (outcomes, object, text, status, decodes, told) = c.decode.ensures.undecided undecided in
-    (c.in-Ok-Some-Decode.draws, c.in-Ok-Some-Decode.packets, asks, outcomes, object, text, status, decodes, told)
+pub returns-in-Ok-None-clause-runs : goal.returns-in-Ok-None-clause-runs
+returns-in-Ok-None-clause-runs g c =
+    let means : command_of c.args.words.now ≡ None = search rules in
+    runs_asked c.args.words.now _ _ _ _ _ (sym c.is_later.ensures ∙ c.if-is_later.false) None means
+    (runs_usage _ _ c.tell-status-in-Ok-None.result c.tell-status-in-Ok-None.ensures.status c.tell-status-in-Ok-None.ensures.told)
+
+pub returns-in-Ok-Some-Encode-clause-runs : goal.returns-in-Ok-Some-Encode-clause-runs
+returns-in-Ok-Some-Encode-clause-runs g c =
+    let e = c.in-Ok-Some-Encode in
+    let means : command_of c.args.words.now ≡ Some (command.Encode e.shape e.symbol e.block e.max_n) = search rules in
+    let run = c.encode-status.ensures in
+    runs_asked c.args.words.now _ _ _ _ _ (sym c.is_later.ensures ∙ c.if-is_later.false) (Some (command.Encode e.shape e.symbol e.block e.max_n)) means
+    (record { done = run.done; cut = run.cut; memory = run.memory; refused = run.refused; unwritten = run.unwritten; taken = run.taken; ends = run.ends })
+
+pub returns-in-Ok-Some-Decode-clause-runs : goal.returns-in-Ok-Some-Decode-clause-runs
+returns-in-Ok-Some-Decode-clause-runs g c =
+    let d = c.in-Ok-Some-Decode in
+    let means : command_of c.args.words.now ≡ Some (command.Decode d.draws d.early d.packets) = search rules in
+    let run = c.decode.ensures.decodes in
+    runs_asked c.args.words.now _ _ _ _ _ (sym c.is_later.ensures ∙ c.if-is_later.false) (Some (command.Decode d.draws d.early d.packets)) means
+    (record { done = run.done; cut = run.cut; undecided = run.undecided; refused = run.refused; unwritten = run.unwritten; taken = run.taken; ends = run.ends })

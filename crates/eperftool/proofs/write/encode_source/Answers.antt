@@ -1,7 +1,7 @@
 use Rattle.std.proofs.Common.{List, [], ℕ, ◌≡◌, ◌≤◌, length, get_or, sum, take, All, sym, ap, ◌∙◌, subst}
 use Rattle.std.proofs.lemmas.Result.{IfOk-weaker}
 use Rattle.packet_file.specs.Packets.{block_symbols}
-use Rattle.eperftool.specs.Codes.{HasSize}
+use Rattle.eperftool.specs.BuiltCodes.{HasSize}
 use Rattle.eperftool.proofs.SourceBlocks.{block_room}
 use Rattle.eperftool.proofs.Codewords.{word_is, word_counted, word_short}
 use Rattle.eperftool.proofs.write.encode_source.Goals as goal

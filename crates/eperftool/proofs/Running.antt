@@ -1,0 +1,58 @@
+-- What a run does, by what its words ask for.
+use Rattle.std.proofs.Common.{◌≡◌, Bool, List, [], ℕ, true, false, inl, inr, refl, arith, ⊎_elim, Option, Some, None}
+use Rattle.std.proofs.KnownBytes.{Consumes-nil, Keeps-refl}
+use Rattle.tool_base.specs.Commands.{command_of}
+use Rattle.tool_base.specs.Status.{fault_text}
+use Rattle.tool_base.specs.declared.command.Command.{Command}
+use Rattle.tool_base.specs.declared.command.Command.TheVariants as command
+use Rattle.tool_base.specs.declared.status.Status.{Status}
+use Rattle.tool_base.specs.declared.status.Status.TheVariants as status
+use Rattle.eperftool.specs.Options.{is_later}
+use Rattle.eperftool.specs.Outside.{Hearing, Stream, Streams}
+use Rattle.eperftool.specs.Run.{IsCommandRun, IsRun, IsUnbuiltRun, IsUsageRun}
+use Rattle.eperftool.specs.Written.{IsTold}
+use Rattle.eperftool.specs.declared.refusal.Refusal.TheVariants.{Memory}
+use Rattle.eperftool.proofs.Telling.{keeps_same}
+
+module _ (words : List (List ℕ)) (before after : Streams) (watch watch_now : Hearing) (ended : Status) where
+  -- words that ask for what is built mean a command or none
+  pub runs_asked : is_later words ≡ false → (asked : Option Command) → command_of words ≡ asked → IsCommandRun asked before after watch watch_now ended → IsRun words before after watch watch_now ended
+  runs_asked built asked means run = rw built (rw means run)
+
+  -- and others don't
+  pub runs_later : is_later words ≡ true → IsUnbuiltRun before after ended → IsRun words before after watch watch_now ended
+  runs_later later run = rw later run
+
+module _ (before : Streams) (report : Stream) where
+  abbrev after : Streams
+  after = record before { report = report }
+
+  -- words that mean no command
+  pub runs_usage : (ended : Status) → ended ≡ status.Usage → IsTold (fault_text status.Usage) before.report report → IsUsageRun before after ended
+  runs_usage ended is told = rw is (record { ends = inl refl; input = refl; output = refl; told = told })
+
+  -- words that ask for what isn't built
+  pub runs_unbuilt : (ended : Status) → ended ≡ status.Unbuilt → IsTold (fault_text status.Unbuilt) before.report report → IsUnbuiltRun before after ended
+  runs_unbuilt ended is told = rw is (record { ends = refl; input = refl; output = refl; told = told })
+
+  -- without memory for the words any command ends so
+  pub runs_out : (watch : Hearing) (asked : Option Command) (ended : Status) → ended ≡ status.Memory → IsTold (fault_text status.Memory) before.report report → IsCommandRun asked before after watch watch ended
+  runs_out watch None ended is told = rw is (record { ends = inr refl; input = refl; output = refl; told = told })
+  runs_out watch (Some (command.Encode shape symbol block max_n)) ended is told = rw is (record {
+    done = λ other. absurd (cc other);
+    cut = λ other. absurd (cc other);
+    memory = λ same. inl (Keeps-refl before.output.bytes);
+    refused = λ refused. (Memory, refl, tt, told);
+    unwritten = λ refused apart. Keeps-refl before.output.bytes;
+    taken = ([], Consumes-nil before.input.bytes);
+    ends = inl tt;
+  })
+  runs_out watch (Some (command.Decode draws early most)) ended is told = rw is (record {
+    done = λ other. absurd (cc other);
+    cut = λ other. absurd (cc other);
+    undecided = ⊎_elim (λ (other : status.Memory ≡ status.NoCodeword). absurd (cc other)) (λ (other : status.Memory ≡ status.Undetermined). absurd (cc other));
+    refused = λ refused. (Memory, refl, inl ([], Consumes-nil before.input.bytes, omega arith, keeps_same watch.told), told);
+    unwritten = λ done cut. Keeps-refl before.output.bytes;
+    taken = ([], Consumes-nil before.input.bytes);
+    ends = ((λ (other : status.Memory ≡ status.Usage). cc), (λ (other : status.Memory ≡ status.Unbuilt). cc));
+  })
