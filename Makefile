@@ -16,6 +16,11 @@ demo:
 #   make test               the gate: proves every crate, tries the must-fail edits, runs the tests and the program
 test:
 	rt ci
+	@! command -v python3 > /dev/null || python3 tools/promises.py
+
+#   make promises           prints the file and line of each promise of docs/PROMISES.md, and fails where one isn't there
+promises:
+	@python3 tools/promises.py -v
 
 #   make build              proves and builds the program, and prints its path: build/eperftool
 build:
@@ -36,4 +41,9 @@ install: build/eperftool
 bench: build/eperftool
 	@bench/run.sh
 
-.PHONY: help demo test build install bench
+#   make fuzz CASES=.. SEED=..  holds the built program against a slow second reading of the pages, on random files
+CASES ?= 2000
+fuzz: build/eperftool
+	@python3 tools/fuzz.py $(CASES) $(SEED)
+
+.PHONY: help demo test promises fuzz build install bench

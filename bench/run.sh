@@ -17,7 +17,7 @@ seconds=300
 
 # measure NAME BYTES INPUT OUTPUT WORDS..: runs the words, and prints the time, megabytes of the object a
 # second, the processor time, and the peak of memory, which is never below that of python3 itself, some
-# 14 MiB. Ends with status 1 where the run was stopped or failed.
+# 14 MiB. Ends with status 1 where the run was stopped or ended with a status other than 0 or, undetermined, 8.
 measure() {
     python3 - "$seconds" "$@" <<'END'
 import os, signal, subprocess, sys, time
@@ -41,30 +41,82 @@ with open(given, "rb") as source, open(made, "wb") as sink, open("report", "wb")
 if os.WIFSIGNALED(status):
     print(f"  {name:8} stopped after {limit} s")
     sys.exit(1)
-if status:
-    print(f"  {name:8} ended with status {os.WEXITSTATUS(status)}")
+status = os.WEXITSTATUS(status)
+if status not in (0, 8):
+    print(f"  {name:8} ended with status {status}")
     sys.exit(1)
 speed = size / 1e6 / elapsed
 own = usage.ru_utime + usage.ru_stime
 peak = "" if name == "cat" else f", {usage.ru_maxrss / 1024:.0f} MiB at most"
-print(f"  {name:8}{elapsed:8.2f} s {speed:9.1f} MB/s, {own:7.2f} s of processor time{peak}")
+print(f"  {name:8}{elapsed:8.3f} s {speed:9.1f} MB/s, {own:7.3f} s of processor time{peak}")
 END
 }
 
-# bench MEBIBYTES WORDS..: a file of so many mebibytes, encoded with the words, and all packets decoded.
-bench() {
-    size=$(($1 * 1048576))
-    echo "$1 MiB, encode $([ $# -gt 1 ] && shift && echo "$*" || echo with the defaults)"
-    shift
-    head -c $size /dev/urandom > object
-    measure 'cat' $size object copy cat
-    measure 'encode' $size object packets "$program" encode "$@"
-    measure 'cat' $size packets copy cat
-    if measure 'decode' $size packets again "$program" decode; then
-        cmp object again
-    fi
-    rm -f object packets copy again
+# lose SEED THOUSANDTHS SIZE FROM TO: the packet file FROM, of packets of SIZE bytes, without the packets that
+# are lost, each with this chance, by a generator that starts at the seed.
+lose() {
+    python3 - "$@" <<'END'
+import random, sys
+
+seed, share, size = map(int, sys.argv[1:4])
+chance = random.Random(seed)
+with open(sys.argv[4], "rb") as file:
+    data = memoryview(file.read())
+kept = [data[:26]]
+for at in range(26, len(data), size):
+    if chance.random() * 1000 >= share:
+        kept.append(data[at : at + size])
+with open(sys.argv[5], "wb") as file:
+    file.write(b"".join(kept))
+END
 }
 
-bench 64
-bench 16 --symbol=16 --block=10000
+# object BYTES: a file of so many random bytes.
+object() { head -c "$1" /dev/urandom > object; }
+
+# back: the decoded object is the one that was encoded.
+back() { cmp object again; }
+
+echo '64 MiB, the defaults'
+object 67108864
+measure cat 67108864 object copy cat
+measure encode 67108864 object packets "$program" encode
+measure cat 67108864 packets copy cat
+measure decode 67108864 packets again "$program" decode && back
+echo '  a fifth of the packets lost'
+lose 2 200 1028 packets some
+measure decode 67108864 some again "$program" decode && back
+
+echo '16 MiB, --symbol=16 --block=10000'
+object 16777216
+measure cat 16777216 object copy cat
+measure encode 16777216 object packets "$program" encode --symbol=16 --block=10000
+measure decode 16777216 packets again "$program" decode && back
+
+echo '40 MiB, --symbol=16 --block=10000 --max-n=15000, a fifth of the packets lost'
+object 41943040
+"$program" encode --symbol=16 --block=10000 --max-n=15000 < object > packets 2> report
+lose 1 200 20 packets some
+measure cat 41943040 some copy cat
+measure decode 41943040 some again "$program" decode && back
+
+echo 'one block of 5,000 source symbols of 1,024 bytes, --max-n=7500'
+object 5120000
+"$program" encode --symbol=1024 --block=5000 --max-n=7500 < object > packets 2> report
+echo '  all packets, so that peeling alone gives it'
+measure decode 5120000 packets again "$program" decode && back
+echo '  31 % of the packets lost, so that elimination gives it'
+lose 14 310 1028 packets some
+measure decode 5120000 some again "$program" decode && back
+
+echo 'one block of 20,000 source symbols of 64 bytes, --max-n=30000, 31 % of the packets lost'
+object 1280000
+"$program" encode --symbol=64 --block=20000 --max-n=30000 < object > packets 2> report
+lose 14 310 68 packets some
+measure decode 1280000 some again "$program" decode && back
+
+echo 'one block of 40,000 source symbols of one byte, --max-n=60000, the first 20,000 packets lost: a null word'
+object 40000
+"$program" encode --symbol=1 --block=40000 --max-n=60000 < object > packets 2> report
+{ head -c 26 packets; tail -c +$((27 + 5 * 20000)) packets; } > some
+measure decode 40000 some again "$program" decode || true

@@ -1,0 +1,386 @@
+#!/usr/bin/env python3
+"""Holds the built program against a plain, slow second reading of docs/FORMAT.md, docs/CODES.md and docs/COMMANDS.md.
+
+    fuzz.py [CASES [SEED]]
+
+Each case is an `encode` of a random object with random words, and a `decode` of its packet file after packets were lost,
+repeated, shuffled, changed or cut, or header bytes were changed. Output, report and status have to be those of the second
+reading. A difference is printed with its words and its input in hexadecimal, and ends the run with status 1. EPERFTOOL
+names another program than build/eperftool.
+"""
+import os
+import pathlib
+import random
+import subprocess
+import sys
+
+PROGRAM = os.environ.get("EPERFTOOL", pathlib.Path(__file__).resolve().parent.parent / "build" / "eperftool")
+
+
+class Ends(Exception):
+    """A run that ends with a status and a report, and no output."""
+
+    def __init__(self, status, report):
+        super().__init__(report)
+        self.status, self.report = status, report
+
+
+# ---- codes
+
+
+class Draws:
+    def __init__(self, seed, limit):
+        self.state, self.left = seed, limit
+
+    def draw(self, below):
+        if self.left == 0:
+            raise OverflowError
+        self.left -= 1
+        self.state = 16807 * self.state % 2147483647
+        return below * self.state // 2147483647
+
+
+def left_side(k, n, n1, draws):
+    rows = [set() for _ in range(n - k)]
+    if not rows:
+        return rows
+    rest = [h % (n - k) for h in range(n1 * k)]
+    for column in range(k):
+        for _ in range(min(n1, n - k)):
+            if any(column not in rows[row] for row in rest):
+                while column in rows[rest[at := draws.draw(len(rest))]]:
+                    pass
+                rows[rest[at]].add(column)
+                rest[at] = rest[0]
+                rest = rest[1:]
+            else:
+                while column in rows[row := draws.draw(n - k)]:
+                    pass
+                rows[row].add(column)
+    for row in rows:
+        if not row:
+            row.add(draws.draw(k))
+        if len(row) == 1 and k >= 2:
+            while (column := draws.draw(k)) in row:
+                pass
+            row.add(column)
+    return rows
+
+
+def matrix(codec, k, n, n1, seed, limit):
+    if codec == 200:
+        width, height = seed, -(-k // seed)
+        grid = [[c for c in range(k) if c // width == i] + [k + i] for i in range(height)]
+        return grid + [[c for c in range(k) if c % width == j] + [k + height + j] for j in range(min(width, k))]
+    if limit is None:
+        limit = 64 * (n1 * k + 2 * (n - k)) + 65536
+    draws = Draws(seed, limit)
+    rows = left_side(k, n, n1, draws)
+    for i, row in enumerate(rows):
+        row.add(k + i)
+        if i:
+            row.add(k + i - 1)
+    if codec == 4:
+        for i in range(1, n - k):
+            j, links = i - 1, 0
+            while links < j:
+                j = draws.draw(j)
+                rows[i].add(k + j)
+                links += 1
+    return [sorted(row) for row in rows]
+
+
+def xor(a, b):
+    return bytes(x ^ y for x, y in zip(a, b))
+
+
+# ---- files
+
+
+def grid_size(k, width):
+    return k + -(-k // width) + min(width, k)
+
+
+class Header:
+    def __init__(self, codec, length, symbol, n1m3, group, block, max_n, seed):
+        self.codec, self.length, self.symbol, self.n1 = codec, length, symbol, n1m3 + 3
+        self.n1m3, self.group, self.block, self.max_n, self.seed = n1m3, group, block, max_n, seed
+
+    def spelled(self):
+        return (
+            b"OFPK\x01" + bytes([self.codec, 0, 0]) + self.length.to_bytes(6, "big") + self.symbol.to_bytes(2, "big")
+            + bytes([self.n1m3 << 5 | self.group]) + (self.block << 20 | self.max_n).to_bytes(5, "big")
+            + self.seed.to_bytes(4, "big")
+        )
+
+    def field_fault(self):
+        grid = self.codec == 200
+        faults = [
+            self.symbol == 0, self.group != 1, self.block == 0, self.max_n < self.block, self.max_n > 65536,
+            not grid and not 1 <= self.seed <= 2147483646, grid and self.seed == 0,
+        ]
+        if any(faults):
+            return faults.index(True) + 1
+        return 8 if grid and (self.n1m3 != 0 or self.max_n != grid_size(self.block, self.seed)) else None
+
+    def check_sizes(self):
+        if self.length > 268435456:
+            raise Ends(7, "fault: limit length\n")
+        sources = -(-self.length // self.symbol)
+        count = -(-sources // self.block)
+        if count > 4096:
+            raise Ends(7, "fault: limit blocks\n")
+        large, small = (-(-sources // count), sources // count) if count else (0, 0)
+        first = sources - small * count
+        self.sizes = [large] * first + [small] * (count - first)
+        self.counts = [
+            grid_size(k, self.seed) if self.codec == 200 else k * self.max_n // self.block for k in self.sizes
+        ]
+        if any(n * self.symbol > 268435456 for n in self.counts):
+            raise Ends(7, "fault: limit block-bytes\n")
+        if sum(self.counts) > 4194304:
+            raise Ends(7, "fault: limit symbols\n")
+        if sum(self.counts) * self.symbol > 536870912:
+            raise Ends(7, "fault: limit bytes\n")
+
+    def codes(self, limit):
+        built, codes = {}, []
+        for block, (k, n) in enumerate(zip(self.sizes, self.counts)):
+            if k not in built:
+                try:
+                    built[k] = matrix(self.codec, k, n, self.n1, self.seed, limit)
+                except OverflowError:
+                    raise Ends(6, f"fault: draws block {block}\n") from None
+            codes.append(built[k])
+        return codes
+
+
+def read_header(data):
+    if len(data) < 26:
+        raise Ends(5, f"fault: header short {len(data)}\n")
+    if data[:4] != b"OFPK":
+        raise Ends(5, "fault: header magic\n")
+    if data[4] != 1:
+        raise Ends(5, f"fault: header version {data[4]}\n")
+    if data[5] not in (3, 4, 200):
+        raise Ends(5, f"fault: header codec {data[5]}\n")
+    if data[6] or data[7]:
+        raise Ends(5, "fault: header reserved\n")
+    wide = int.from_bytes(data[17:22], "big")
+    header = Header(
+        data[5], int.from_bytes(data[8:14], "big"), int.from_bytes(data[14:16], "big"), data[16] >> 5, data[16] & 31,
+        wide >> 20, wide & 0xFFFFF, int.from_bytes(data[22:26], "big"),
+    )
+    if fault := header.field_fault():
+        raise Ends(5, f"fault: header field {fault}\n")
+    header.check_sizes()
+    return header
+
+
+def encode(header, data, limit):
+    header.check_sizes()
+    codes = header.codes(limit)
+    size, at, out, packets = header.symbol, 0, [header.spelled()], 0
+    for block, (k, rows) in enumerate(zip(header.sizes, codes)):
+        word = [data[(at + i) * size : (at + i + 1) * size].ljust(size, b"\0") for i in range(k)]
+        at += k
+        for row in rows:
+            total = bytes(size)
+            for column in row[:-1]:
+                total = xor(total, word[column])
+            word.append(total)
+        for position, symbol in enumerate(word):
+            out.append((block << 20 | position).to_bytes(4, "big") + symbol)
+        packets += len(word)
+    return 0, b"".join(out), f"blocks {len(codes)}\npackets {packets}\n"
+
+
+# ---- what arrivals determine
+
+
+def eliminate(rows, sums, unknowns, size):
+    """None where nothing solves the rows; else the symbols of the unknowns, or the first null set."""
+    pivots, left = {}, [(set(row), total) for row, total in zip(rows, sums)]
+    for unknown in unknowns:
+        at = next((i for i, (row, _) in enumerate(left) if unknown in row), None)
+        if at is None:
+            continue
+        row, total = left.pop(at)
+        left = [(r ^ row, xor(t, total)) if unknown in r else (r, t) for r, t in left]
+        pivots = {p: ((r ^ row), xor(t, total)) if unknown in r else (r, t) for p, (r, t) in pivots.items()}
+        pivots[unknown] = (row, total)
+    if any(any(total) for _, total in left):
+        return None, None
+    free = [unknown for unknown in unknowns if unknown not in pivots]
+    if not free:
+        return {unknown: pivots[unknown][1] for unknown in unknowns}, None
+    return None, sorted([free[0]] + [p for p, (row, _) in pivots.items() if free[0] in row])
+
+
+def closure(rows, known):
+    known, more = set(known), True
+    while more:
+        more = [o[0] for row in rows if len(o := [c for c in row if c not in known]) == 1]
+        known |= set(more)
+    return known
+
+
+def outcome(rows, k, n, arrivals, size):
+    """The words of the report, and the source or None."""
+    symbols = {}
+    for position, symbol in arrivals:
+        if symbols.setdefault(position, symbol) != symbol:
+            return " contradicted\n", None
+    unknowns = [c for c in range(n) if c not in symbols]
+    open_rows, sums = [], []
+    for row in rows:
+        total = bytes(size)
+        for column in row:
+            if column in symbols:
+                total = xor(total, symbols[column])
+        open_rows.append([c for c in row if c not in symbols])
+        sums.append(total)
+    values, null = eliminate(open_rows, sums, unknowns, size)
+    if null:
+        return " undetermined" + "".join(f" {c}" for c in null) + "\n", None
+    if values is None:
+        return " contradicted\n", None
+    symbols.update(values)
+    peeled = set(range(k)) <= closure(rows, [position for position, _ in arrivals])
+    return " peeled\n" if peeled else " solved\n", b"".join(symbols[c] for c in range(k))
+
+
+def decode(data, limit, early, most):
+    header = read_header(data)
+    codes = header.codes(limit)
+    length, at, count = 4 + header.symbol, 26, 0
+    arrivals = [[] for _ in codes]
+
+    def whole():
+        return all(
+            set(range(k)) <= closure(rows, [p for p, _ in came])
+            for k, rows, came in zip(header.sizes, codes, arrivals)
+        )
+
+    while not (early and whole()) and at < len(data):
+        piece = data[at : at + length]
+        if count == most:
+            raise Ends(7, "fault: limit packets\n")
+        if len(piece) < length:
+            raise Ends(5, f"fault: packet {count} short {len(piece)}\n")
+        identifier = int.from_bytes(piece[:4], "big")
+        block, position = identifier >> 20, identifier & 0xFFFFF
+        if block >= len(codes):
+            raise Ends(5, f"fault: packet {count} block {block}\n")
+        if position >= header.counts[block]:
+            raise Ends(5, f"fault: packet {count} symbol {position}\n")
+        arrivals[block].append((position, piece[4:]))
+        at, count = at + length, count + 1
+    report, sources = "", []
+    for block, (rows, k, n, came) in enumerate(zip(codes, header.sizes, header.counts, arrivals)):
+        words, source = outcome(rows, k, n, came, header.symbol)
+        report += f"block {block}{words}"
+        sources.append(source)
+    report += f"packets {count}\n"
+    if "contradicted" in report:
+        return 9, b"", report
+    if None in sources:
+        return 8, b"", report
+    return 0, b"".join(sources)[: header.length], report
+
+
+# ---- cases
+
+
+def random_words(chance):
+    codec = chance.choice(["staircase", "staircase", "triangle", "2d"])
+    symbol, block = chance.choice([1, 1, 2, 3, 8, 33]), chance.randint(1, 24)
+    words, limit = [f"--codec={codec}", f"--symbol={symbol}", f"--block={block}"], None
+    if codec == "2d":
+        width = chance.randint(1, 9)
+        words.append(f"--width={width}")
+        return words, limit, lambda size: Header(200, size, symbol, 0, 1, block, grid_size(block, width), width)
+    n1, seed = chance.randint(3, 10), chance.choice([1, 7, chance.randint(1, 2147483646)])
+    max_n = block + chance.randint(0, 24)
+    words += [f"--n1={n1}", f"--seed={seed}", f"--max-n={max_n}"]
+    if chance.random() < 0.1:
+        limit = chance.randint(0, 200)
+        words.append(f"--draws={limit}")
+    number = {"staircase": 3, "triangle": 4}[codec]
+    return words, limit, lambda size: Header(number, size, symbol, n1 - 3, 1, block, max_n, seed)
+
+
+def damaged(chance, file, size):
+    header, body = bytearray(file[:26]), file[26:]
+    packets = [body[at : at + size] for at in range(0, len(body), size)]
+    share = chance.choice([0, 0.1, 0.3, 0.5, 0.9])
+    packets = [packet for packet in packets if chance.random() >= share]
+    if packets and chance.random() < 0.5:
+        packets += [chance.choice(packets) for _ in range(chance.randint(0, 4))]
+    if chance.random() < 0.6:
+        chance.shuffle(packets)
+    if packets and chance.random() < 0.25:
+        at = chance.randrange(len(packets))
+        packet = bytearray(packets[at])
+        packet[chance.choice([1, 3, chance.randrange(4, len(packet))])] ^= 1 << chance.randrange(8)
+        packets[at] = bytes(packet)
+    if chance.random() < 0.05:
+        header[chance.randrange(26)] ^= 1 << chance.randrange(8)
+    data = bytes(header) + b"".join(packets)
+    return data[: chance.randint(0, len(data))] if chance.random() < 0.1 else data
+
+
+def program(words, data):
+    done = subprocess.run([PROGRAM, *words], input=data, capture_output=True, check=False)
+    report = "".join(line for line in done.stderr.decode().splitlines(True) if not line.startswith("rebuilt "))
+    return done.returncode, done.stdout, report
+
+
+def expected(call):
+    try:
+        return call()
+    except Ends as end:
+        return end.status, b"", end.report
+
+
+def check(words, data, wanted, seen):
+    got = program(words, data)
+    seen[got[0]] = seen.get(got[0], 0) + 1
+    if got != wanted:
+        print(f"words:  {' '.join(words)}\ninput:  {data.hex()}")
+        print(f"wanted: status {wanted[0]}, {wanted[2]!r}, {wanted[1].hex()}")
+        print(f"got:    status {got[0]}, {got[2]!r}, {got[1].hex()}")
+        sys.exit(1)
+    return got
+
+
+def main():
+    cases = int(sys.argv[1]) if len(sys.argv) > 1 else 2000
+    seed = int(sys.argv[2]) if len(sys.argv) > 2 else random.randrange(2**32)
+    chance, seen = random.Random(seed), {}
+    for _ in range(cases):
+        words, limit, header_of = random_words(chance)
+        data = chance.randbytes(chance.choice([0, 1, chance.randint(1, 60), chance.randint(1, 300)]))
+        header = header_of(len(data))
+        status, file, _ = check(
+            ["encode", *words], data, expected(lambda: encode(header, data, limit)), seen  # noqa: B023
+        )
+        if status:
+            continue
+        file = damaged(chance, file, 4 + header.symbol)
+        options, early, most, limit = ["decode"], chance.random() < 0.3, 16777216, None
+        if early:
+            options.append("--early=yes")
+        if chance.random() < 0.1:
+            most = chance.randint(0, 40)
+            options.append(f"--packets={most}")
+        if chance.random() < 0.05:
+            limit = chance.randint(0, 300)
+            options.append(f"--draws={limit}")
+        check(options, file, expected(lambda: decode(file, limit, early, most)), seen)  # noqa: B023
+    statuses = ", ".join(f"{count} of status {status}" for status, count in sorted(seen.items()))
+    print(f"{sum(seen.values())} runs from seed {seed}, no difference: {statuses}")
+
+
+if __name__ == "__main__":
+    main()
