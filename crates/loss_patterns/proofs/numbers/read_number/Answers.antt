@@ -1,7 +1,7 @@
 use Rattle.std.proofs.Common.{arith, sym, ◌∙◌, ◌<◌, take, ◌+◌}
 use Rattle.std.specs.Str.Parse.{digits_value}
-use Rattle.tool_base.proofs.Digits.{one_more, too_large}
-use Rattle.tool_base.proofs.numbers.read_number.Goals as goal
+use Rattle.loss_patterns.proofs.Digits.{one_more, too_large}
+use Rattle.loss_patterns.proofs.numbers.read_number.Goals as goal
 
 pub returns-then-number-high-clause-value : goal.returns-then-number-high-clause-value
 returns-then-number-high-clause-value c =

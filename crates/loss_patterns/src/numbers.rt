@@ -2,9 +2,10 @@
 ghost use Rattle.std.specs.Prelude.{◌≡◌, ◌≤◌, IfSome};
 ghost use Rattle.std.specs.List.{list_all};
 ghost use Rattle.std.specs.Char.{is_ascii_digit};
-ghost use Rattle.tool_base.specs.Numbers.{is_numeral, number_in};
+ghost use Rattle.loss_patterns.specs.Numbers.{is_numeral, number_in};
 
-// The number that the text writes, where it is one from `low` to `high`.
+/// The number that the text writes, where it is one from `low` to `high`: decimal digits without a
+/// sign, and without a leading zero but in `0` itself. Any other text gives none.
 pub fn read_number(text: &[u8], low: u32, high: u32) -> Option<u32>
     ensures value { result ≡ number_in low high text.now }
     ensures low { IfSome result (λ n. low ≤ n) }
