@@ -1,0 +1,18 @@
+use Rattle.std.proofs.Common.{◌≡◌, ◌≤◌, ◌+◌, List, [], length}
+use Rattle.packet_file.specs.Packets.{Packet}
+use Rattle.packet_pass.specs.Pass.{Stands}
+use Rattle.packet_pass.specs.Writing.{HasWritten}
+use Rattle.packet_pass.proofs.passing.pass_packets.Given as goal
+
+abbrev pub invariant-loop-index : goal.invariant-loop-index
+invariant-loop-index g l = record {
+  long : length l.piece ≡ 4 + l.header.oti.symbol;
+  pass : l.writer.pass ≡ l.initial.writer.pass;
+  ready : HasWritten l.writer l.index;
+  came : (packets : List Packet)
+      × Stands l.initial.writer.pass l.header [] [] (g.S.Source.left l.initial.input) (g.S.Source.left l.input) (g.K.Sink.held l.initial.output) (g.K.Sink.held l.output) packets [] []
+      × (length packets ≡ l.index);
+  few : l.index ≤ l.most;
+  later : g.S.Source.faults l.initial.input ≤ g.S.Source.faults l.input;
+  sink_later : g.K.Sink.faults l.initial.output ≤ g.K.Sink.faults l.output;
+}

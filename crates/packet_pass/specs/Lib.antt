@@ -1,0 +1,5 @@
+pub mod Thinned
+pub mod Lines
+pub mod Pass
+pub mod Progress
+pub mod Writing

@@ -1,0 +1,34 @@
+-- The lines that show a packet file.
+use Rattle.std.specs.Prelude.{ℕ, ◌+◌, List, ◌++◌, length, take, codes}
+use Rattle.std.specs.Fmt.{decimal}
+use Rattle.hex.specs.Hex.{encode_lower}
+use Rattle.oti_fields.specs.declared.codec.Codec.{Codec}
+use Rattle.oti_fields.specs.declared.codec.Codec.TheVariants.{Staircase, Triangle, Parity2d}
+use Rattle.oti_fields.specs.declared.oti.Oti.{Oti}
+use Rattle.packet_file.specs.Header.{HeaderFields, source_counts}
+use Rattle.packet_file.specs.Packets.{Packet}
+
+-- the name of a code and its parameters: N1 and the seed, or the width of the grid
+abbrev pub code_by : Codec → Oti → List ℕ
+code_by Staircase oti = codes "codec staircase n1 " ++ decimal (oti.n1m3 + 3)
+    ++ codes " seed " ++ decimal oti.seed
+code_by Triangle oti = codes "codec triangle n1 " ++ decimal (oti.n1m3 + 3)
+    ++ codes " seed " ++ decimal oti.seed
+code_by Parity2d oti = codes "codec 2d width " ++ decimal oti.seed
+
+-- the line of a header: its code, its fields, and the number of its source blocks
+abbrev pub header_line : HeaderFields → List ℕ
+header_line h = code_by h.codec h.oti
+    ++ codes " length " ++ decimal h.oti.length ++ codes " symbol " ++ decimal h.oti.symbol
+    ++ codes " block " ++ decimal h.oti.block ++ codes " max " ++ decimal h.oti.max_n
+    ++ codes " blocks " ++ decimal (length (source_counts h)) ++ codes "\n"
+
+-- the first 16 bytes of a symbol, or all of a shorter one, in lower-case hexadecimal
+abbrev pub shown : List ℕ → List ℕ
+shown symbol = encode_lower (take 16 symbol)
+
+-- the line of packet i, counted from 0: its block, its encoding symbol, and how that begins
+abbrev pub packet_line : ℕ → Packet → List ℕ
+packet_line i p = codes "packet " ++ decimal i
+    ++ codes " block " ++ decimal p.0.sbn ++ codes " symbol " ++ decimal p.0.esi
+    ++ codes " bytes " ++ shown p.1 ++ codes "\n"

@@ -1,0 +1,115 @@
+// The pass itself.
+ghost use Rattle.std.specs.Prelude.{◌≡◌, ◌≢◌, ◌+◌, ◌<◌, ◌≤◌, ◌++◌, ◌∷◌, ℕ, List, [], true, false};
+ghost use Rattle.std.specs.Prelude.{length, Ok, Err, IfOk, IfErr};
+ghost use Rattle.std.specs.Io.KnownBytes.{Consumes, IsAtEnd};
+ghost use Rattle.packet_file.specs.Header.{IsHeader};
+ghost use Rattle.packet_file.specs.Packets.{Packet};
+ghost use Rattle.packet_pass.specs.Pass.{EndsWhole, IsPass, PassEnds, PassesWhole, Stands};
+ghost use Rattle.packet_pass.specs.Writing.{EndsAtPacket, EndsEarly, HasWritten, PassesOne};
+
+use crate::writer::{PassWriter, put_head, put_packet};
+use crate::{Pass, PassRefusal, Passed};
+use fec_base::{Sink, Source};
+use packet_file::{Header, IDENTIFIER_LEN, next_packet, read_header};
+use std::alloc::Global;
+
+/// Passes over the packet file that the input is, of at most `most` packets, up to 16,777,216.
+///
+/// One packet is in memory at a time, and all memory is taken before the first byte is written. The
+/// text of the header, and then that of each packet, is put together in memory and handed over as
+/// one piece. It is whole in the output before a byte behind it is asked for: more can't be staged,
+/// since an output that fails has to find the input just behind the packet whose text isn't whole.
+/// So a packet costs one read, one write where it is kept, and one draw at most.
+///
+/// `Ok` comes at the end of the input alone. What stands after each refusal is said there.
+pub fn pass<S: Source, K: Sink>(
+    alloc: Global,
+    pass: Pass,
+    most: u32,
+    input: &mut S,
+    output: &mut K,
+) -> Result<Passed, PassRefusal>
+    requires pass { IsPass pass }
+    requires most { most ≤ 16777216 }
+    ensures whole { IfOk result (PassesWhole pass most
+        (S.left input.old) (S.left input.new) (K.held output.old) (K.held output.new)) }
+    ensures ends { IfErr result (PassEnds pass most
+        (S.left input.old) (S.left input.new) (K.held output.old) (K.held output.new)
+        (S.faults input.old) (S.faults input.new) (K.faults output.old) (K.faults output.new)) }
+{
+    let header = read_header(input)?;
+    let mut writer = PassWriter::new(alloc, pass)?;
+    let mut piece = vec![in alloc; 0u8; IDENTIFIER_LEN + header.symbol_len() as usize]?;
+    put_head(&mut writer, output, &header)?;
+    let packets = pass_packets(&mut writer, most as u64, &header, &mut piece, input, output)?;
+    Ok(Passed {
+        packets,
+        kept: writer.thinning.kept(),
+    })
+}
+
+// Passes over the packets behind the header, each by the same piece. Says how many.
+fn pass_packets<S: Source, K: Sink>(
+    writer: &mut PassWriter,
+    most: u64,
+    header: &Header,
+    piece: &mut [u8],
+    input: &mut S,
+    output: &mut K,
+) -> Result<u64, PassRefusal>
+    requires ready { HasWritten writer.old 0 }
+    requires most { most ≤ 16777216 }
+    requires piece { length piece.old ≡ 4 + header.now.oti.symbol }
+    ensures whole { IfOk result (EndsWhole writer.old.pass most header.now [] []
+        (S.left input.old) (S.left input.new) (K.held output.old) (K.held output.new)) }
+    ensures written { IfOk result (λ count. HasWritten writer.new count) }
+    ensures pass { writer.new.pass ≡ writer.old.pass }
+    ensures ends { IfErr result (EndsEarly writer.old.pass most header.now [] []
+        (S.left input.old) (S.left input.new) (K.held output.old) (K.held output.new)
+        (S.faults input.old) (S.faults input.new) (K.faults output.old) (K.faults output.new)) }
+{
+    for index in 0..most + 1 {
+        if !pass_packet(writer, index, most, header, piece, input, output)? {
+            return Ok(index);
+        }
+    }
+    // At the limit a packet more is refused.
+    unreachable!()
+}
+
+// Passes over packet number `index`, of at most `most`. Says whether there was one.
+fn pass_packet<S: Source, K: Sink>(
+    writer: &mut PassWriter,
+    index: u64,
+    most: u64,
+    header: &Header,
+    piece: &mut [u8],
+    input: &mut S,
+    output: &mut K,
+) -> Result<bool, PassRefusal>
+    requires ready { HasWritten writer.old index }
+    requires index { index ≤ most }
+    requires most { most ≤ 16777216 }
+    requires piece { length piece.old ≡ 4 + header.now.oti.symbol }
+    ensures packet { result ≡ Ok true
+        → (p : Packet) × PassesOne writer.old.pass header.now index
+        (S.left input.old) (S.left input.new) (K.held output.old) (K.held output.new) p }
+    ensures within { result ≡ Ok true → index < most }
+    ensures ready { result ≡ Ok true → HasWritten writer.new (index + 1) }
+    ensures end { result ≡ Ok false
+        → Consumes (S.left input.old) (S.left input.new) [] × IsAtEnd (S.left input.new)
+        × (output.new ≡ output.old) × (writer.new ≡ writer.old) }
+    ensures pass { writer.new.pass ≡ writer.old.pass }
+    ensures ends { IfErr result (EndsAtPacket writer.old.pass most header.now index
+        (S.left input.old) (S.left input.new) (K.held output.old) (K.held output.new)
+        (S.faults input.old) (S.faults input.new) (K.faults output.old) (K.faults output.new)) }
+    ensures length { length piece.new ≡ length piece.old }
+    ensures later { S.faults input.old ≤ S.faults input.new }
+    ensures sink_later { K.faults output.old ≤ K.faults output.new }
+{
+    let Some(id) = next_packet(input, header, index, most, piece)? else {
+        return Ok(false);
+    };
+    put_packet(writer, output, index, id, piece)?;
+    Ok(true)
+}
