@@ -1,30 +1,40 @@
 -- From the items to what they give of the options.
-use Rattle.std.proofs.Common.{◌≡◌, ◌∙◌, ◌&&◌, ◌||◌, ℕ, Bool, cond, true, false, not, refl, sym, ap, inl, inr, List, [], ◌∷◌, map, Option, Some, None, is_some, true≢false, eqb-true}
+use Rattle.std.proofs.Common.{◌≡◌, ◌∙◌, ◌&&◌, ◌||◌, ◌+◌, suc, arith, take, ℕ, Bool, cond, true, false, not, refl, sym, ap, inl, inr, List, [], ◌∷◌, map, Option, Some, None, is_some, true≢false, eqb-true}
 use Rattle.std.specs.Prelude.{length, nat_eq, nat_le}
 use Rattle.std.specs.Str.Parse.{digits_value}
-use Rattle.std.specs.List.{list_all}
+use Rattle.std.specs.List.{after_first, before_first, list_all, position_or_len}
 use Rattle.std.specs.Option.{option_map_or}
 use Rattle.std.specs.Str.{bytes_eq}
 use Rattle.std.proofs.lemmas.Bool.{and_parts, cases_Bool}
 use Rattle.std.proofs.lemmas.Slice.Eq.{bytes_eq-Decides}
 use Rattle.clap.specs.declared.parser.matches.ArgMatches.{ArgMatches}
+use Rattle.loss_patterns.specs.Kinds.{is_colon, loss_named, loss_of}
 use Rattle.tool_base.specs.Items.{Item, Text, is_among, items_of, names_once, value_of}
 use Rattle.tool_base.specs.Options.{Given, CommandOption, given_by, is_value, listed, names_of, options_given, values_fit}
 use Rattle.tool_base.specs.Reading.{HasValues, Matches, given_of, is_plain}
 use Rattle.tool_base.specs.declared.options.OptionRow.{OptionRow}
 use Rattle.tool_base.specs.declared.options.ValueKind.{ValueKind}
-use Rattle.tool_base.specs.declared.options.ValueKind.TheVariants.{Number, YesOrNo, CodecWord}
+use Rattle.tool_base.specs.declared.options.ValueKind.TheVariants.{Number, YesOrNo, CodecWord, LossText}
 use Rattle.tool_base.proofs.PlainItems.{all_plain}
 
 stuck_false : (a b : Bool) (n : ℕ) → is_some (cond ((a && false) && b) (Some n) None) ≡ false
 stuck_false true b n = refl
 stuck_false false b n = refl
 
+-- no loss begins with a hyphen, since its name does
+no_loss : (rest : Text) → is_some (loss_of (45 ∷ rest)) ≡ false
+no_loss rest =
+    let n : ℕ = position_or_len is_colon rest in
+    let next : 1 + n ≡ suc n = omega arith in
+    let name : before_first is_colon (45 ∷ rest) ≡ 45 ∷ take n rest = ap (λ (k : ℕ). take k (45 ∷ rest)) next in
+    ap (λ l. is_some (loss_named l (after_first is_colon (45 ∷ rest)))) name
+
 -- no value begins with a hyphen
 no_hyphen : (v : ValueKind) (rest : Text) → is_value v (45 ∷ rest) ≡ false
 no_hyphen (Number low high) rest = stuck_false (not (nat_eq (length (45 ∷ rest)) 0)) (nat_le low (digits_value 10 (45 ∷ rest)) && nat_le (digits_value 10 (45 ∷ rest)) high) (digits_value 10 (45 ∷ rest))
 no_hyphen YesOrNo rest = refl
 no_hyphen CodecWord rest = refl
+no_hyphen LossText rest = no_loss rest
 
 value_plain : (v : ValueKind) (text : Text) → is_value v text ≡ true → is_plain text ≡ true
 value_plain v [] e = refl

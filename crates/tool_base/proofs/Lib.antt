@@ -1,4 +1,3 @@
-pub mod Digits
 pub mod PlainItems
 pub mod ClapRules
 pub mod ClapTurns

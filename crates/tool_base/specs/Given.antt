@@ -8,7 +8,10 @@ use Rattle.std.specs.Str.{bytes_eq}
 use Rattle.parity_2d.specs.Grid.{size_2d}
 use Rattle.oti_fields.specs.declared.codec.Codec.{Codec}
 use Rattle.oti_fields.specs.declared.codec.Codec.TheVariants.{Staircase, Parity2d}
-use Rattle.tool_base.specs.Numbers.{number_in}
+use Rattle.loss_patterns.specs.Kinds.{loss_of}
+use Rattle.loss_patterns.specs.Numbers.{number_in}
+use Rattle.loss_patterns.specs.declared.kind.LossKind.{LossKind}
+use Rattle.loss_patterns.specs.declared.kind.LossKind.TheVariants as loss
 use Rattle.tool_base.specs.Items.{Text}
 use Rattle.tool_base.specs.Options.{Given, codec_of}
 use Rattle.tool_base.specs.declared.command.Shape.{Shape}
@@ -28,6 +31,10 @@ is_yes name given = option_map_or (λ text. bytes_eq text (codes "yes")) (given 
 -- the codec that is given, or the staircase
 abbrev pub codec_given : Given → Codec
 codec_given given = unwrap_or (option_and_then codec_of (given (codes "codec"))) Staircase
+
+-- the loss that is given, or that of no packet
+abbrev pub loss_given : Given → LossKind
+loss_given given = unwrap_or (option_and_then loss_of (given (codes "loss"))) loss.None
 
 -- whether the codec is a grid
 abbrev pub is_grid : Codec → Bool

@@ -7,11 +7,13 @@ use Rattle.std.specs.Option.{option_map_or}
 use Rattle.std.specs.Str.{bytes_eq}
 use Rattle.oti_fields.specs.declared.codec.Codec.{Codec}
 use Rattle.oti_fields.specs.declared.codec.Codec.TheVariants.{Staircase, Triangle, Parity2d}
-use Rattle.tool_base.specs.Numbers.{number_in}
+use Rattle.loss_patterns.specs.Kinds.{loss_of}
+use Rattle.loss_patterns.specs.Numbers.{number_in}
 use Rattle.tool_base.specs.Items.{Item, Text, items_of, names_once, value_of}
 use Rattle.tool_base.specs.declared.options.OptionRow.{OptionRow}
 use Rattle.tool_base.specs.declared.options.ValueKind.{ValueKind}
-use Rattle.tool_base.specs.declared.options.ValueKind.TheVariants.{Number, YesOrNo, CodecWord}
+use Rattle.tool_base.specs.declared.options.ValueKind.TheVariants.{CodecWord, LossText, Number}
+use Rattle.tool_base.specs.declared.options.ValueKind.TheVariants.{YesOrNo}
 
 -- an option of a command: its name, and the values that it takes
 pub record CommandOption : Type 0 where
@@ -31,6 +33,7 @@ abbrev pub is_value : ValueKind → Text → Bool
 is_value (Number low high) text = is_some (number_in low high text)
 is_value YesOrNo text = bytes_eq text (codes "yes") || bytes_eq text (codes "no")
 is_value CodecWord text = is_some (codec_of text)
+is_value LossText text = is_some (loss_of text)
 
 -- the names of a table
 abbrev pub names_of : List CommandOption → List Text

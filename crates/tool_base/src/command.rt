@@ -3,11 +3,13 @@ ghost use Rattle.std.specs.Prelude.{◌≡◌, IfSome, map};
 ghost use Rattle.tool_base.specs.Options.{listed};
 ghost use Rattle.tool_base.specs.Reading.{given_of};
 ghost use Rattle.tool_base.specs.Commands.{IsInRange, decode_of, decode_options, encode_of};
-ghost use Rattle.tool_base.specs.Commands.{encode_options};
+ghost use Rattle.tool_base.specs.Commands.{encode_options, lose_of, lose_options, show_of};
+ghost use Rattle.tool_base.specs.Commands.{show_options};
 
-use crate::given::{is_yes, number_given, number_or, shape_given, symbols_given};
+use crate::given::{is_yes, loss_given, number_given, number_or, shape_given, symbols_given};
 use crate::options::{OptionRow, ValueKind};
 use clap::ArgMatches;
+use loss_patterns::LossKind;
 use oti_fields::Codec;
 
 /// Which code a command is to make. Where an option is excluded by the codec, it has its default.
@@ -45,6 +47,20 @@ pub enum Command {
         draws: Option<u32>,
         /// Whether to stop once all source symbols are known.
         early: bool,
+        /// How many packets may be read, at most 16,777,216.
+        packets: u32,
+    },
+    /// Writes a packet file without the packets that are lost.
+    Lose {
+        /// Which packets are lost.
+        loss: LossKind,
+        /// The seed of the draws, from 1 to 2,147,483,646.
+        seed: u32,
+        /// How many packets may be read, at most 16,777,216.
+        packets: u32,
+    },
+    /// Writes a line for the header of a packet file, and one for each packet.
+    Show {
         /// How many packets may be read, at most 16,777,216.
         packets: u32,
     },
@@ -102,6 +118,46 @@ pub fn read_decode(given: &ArgMatches) -> Command
     Command::Decode {
         draws: number_given(given, "draws", 0, u32::MAX),
         early: is_yes(given, "early"),
+        packets: number_or(given, "packets", 0, 16_777_216, 16_777_216),
+    }
+}
+
+// The options of `lose`.
+pub fn lose_options() -> [OptionRow; 3]
+    ensures { map listed result ≡ lose_options }
+{
+    [
+        OptionRow::new("loss", ValueKind::LossText),
+        OptionRow::new("seed", ValueKind::Number(1, 2_147_483_646)),
+        OptionRow::new("packets", ValueKind::Number(0, 16_777_216)),
+    ]
+}
+
+// The `lose` that is given.
+pub fn read_lose(given: &ArgMatches) -> Command
+    ensures value { result ≡ lose_of (given_of given.now) }
+    ensures in_range { IsInRange result }
+{
+    Command::Lose {
+        loss: loss_given(given),
+        seed: number_or(given, "seed", 1, 2_147_483_646, 1),
+        packets: number_or(given, "packets", 0, 16_777_216, 16_777_216),
+    }
+}
+
+// The options of `show`.
+pub fn show_options() -> [OptionRow; 1]
+    ensures { map listed result ≡ show_options }
+{
+    [OptionRow::new("packets", ValueKind::Number(0, 16_777_216))]
+}
+
+// The `show` that is given.
+pub fn read_show(given: &ArgMatches) -> Command
+    ensures value { result ≡ show_of (given_of given.now) }
+    ensures in_range { IsInRange result }
+{
+    Command::Show {
         packets: number_or(given, "packets", 0, 16_777_216, 16_777_216),
     }
 }

@@ -2,16 +2,17 @@
 ghost use Rattle.std.specs.Prelude.{◌≡◌, ◌≤◌, ◌∷◌, [], IfSome};
 ghost use Rattle.parity_2d.specs.Grid.{size_2d};
 ghost use Rattle.oti_fields.specs.declared.codec.Codec.TheVariants.{Parity2d};
+ghost use Rattle.loss_patterns.specs.Kinds.{IsLoss};
 ghost use Rattle.tool_base.specs.Reading.{given_of};
 ghost use Rattle.tool_base.specs.Commands.{IsShapeInRange};
 ghost use Rattle.tool_base.specs.Given.{codec_given, gives_any, gives_excluded, is_grid, is_yes};
-ghost use Rattle.tool_base.specs.Given.{number_given, number_or, shape_of, symbols_of};
+ghost use Rattle.tool_base.specs.Given.{loss_given, number_given, number_or, shape_of, symbols_of};
 ghost use Rattle.tool_base.specs.Given.{symbols_wanted};
 
 use crate::Shape;
-use crate::numbers::read_number;
 use crate::options::read_codec;
 use clap::ArgMatches;
+use loss_patterns::{LossKind, read_loss, read_number};
 use oti_fields::Codec;
 use parity_2d::size_2d;
 
@@ -61,6 +62,20 @@ fn codec_given(given: &ArgMatches) -> Codec
             None => Codec::Staircase,
         },
         None => Codec::Staircase,
+    }
+}
+
+// The loss that is given, or that of no packet.
+pub fn loss_given(given: &ArgMatches) -> LossKind
+    ensures value { result ≡ loss_given (given_of given.now) }
+    ensures in_range { IsLoss result }
+{
+    match given.get_str("loss") {
+        Some(text) => match read_loss(text) {
+            Some(loss) => loss,
+            None => LossKind::None,
+        },
+        None => LossKind::None,
     }
 }
 

@@ -1,16 +1,15 @@
 //! What the commands share: which command a list of words asks for and with which options, the code
 //! of a block of a file, how a run may end, and texts and numbers put into a report. It stands on
-//! `clap`, which splits the words into options, on `packet_file` for the header of a file and on
-//! `staircase`, `triangle` and `parity_2d` for its codes. It promises that words are read exactly
-//! as `specs/` states without a word of clap, for any table of options, that what is read is in its
-//! ranges, that a block has the code of its file's codec, and that each status has its number and
-//! its text.
+//! `clap`, which splits the words into options, on `loss_patterns` for numbers and losses in them,
+//! on `packet_file` for the header of a file and on `staircase`, `triangle` and `parity_2d` for its
+//! codes. It promises that words are read exactly as `specs/` states without a word of clap, for
+//! any table of options, that what is read is in its ranges, that a block has the code of its
+//! file's codec, and that each status has its number and its text.
 #![tactic(auto)]
 
 mod codes;
 mod command;
 mod given;
-mod numbers;
 mod options;
 mod printing;
 mod status;

@@ -6,10 +6,10 @@ ghost use Rattle.tool_base.specs.Items.{is_dashes};
 ghost use Rattle.tool_base.specs.Options.{codec_of, is_value, listed, options_given};
 ghost use Rattle.tool_base.specs.Reading.{Matches, given_of};
 
-use crate::numbers::read_number;
 use clap::error::ErrorKind;
 use clap::{Arg, ArgAction, ArgMatches, Command};
 use fec_base::NoMemory;
+use loss_patterns::{read_loss, read_number};
 use oti_fields::Codec;
 use std::alloc::Global;
 
@@ -22,6 +22,8 @@ pub enum ValueKind {
     YesOrNo,
     // The word of a codec.
     CodecWord,
+    // The text of a loss.
+    LossText,
 }
 
 impl ValueKind {
@@ -33,6 +35,7 @@ impl ValueKind {
             ValueKind::Number(low, high) => read_number(text.as_bytes(), low, high).is_some(),
             ValueKind::YesOrNo => text == "yes" || text == "no",
             ValueKind::CodecWord => read_codec(text).is_some(),
+            ValueKind::LossText => read_loss(text).is_some(),
         }
     }
 }

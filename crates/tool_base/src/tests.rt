@@ -1,5 +1,6 @@
 use super::*;
 use fec_base::{MemSink, NoMemory, Words, WriteFailed};
+use loss_patterns::LossKind;
 use oti_fields::Codec;
 use std::alloc::Global;
 use std::process::Abort;
@@ -55,6 +56,41 @@ fn decode_has_defaults(rt: HostRuntime) -> Result<(), Fail> {
         packets: 16_777_216,
     };
     assert_eq!(rt; read(rt.alloc(), &["decode"])?, Some(wanted));
+    Ok(())
+}
+
+#[test]
+fn lose_and_show_have_defaults(rt: HostRuntime) -> Result<(), Fail> {
+    let lose = Command::Lose {
+        loss: LossKind::None,
+        seed: 1,
+        packets: 16_777_216,
+    };
+    let show = Command::Show {
+        packets: 16_777_216,
+    };
+    assert_eq!(rt; read(rt.alloc(), &["lose"])?, Some(lose));
+    assert_eq!(rt; read(rt.alloc(), &["show"])?, Some(show));
+    Ok(())
+}
+
+#[test]
+fn each_option_of_a_pass_is_read(rt: HostRuntime) -> Result<(), Fail> {
+    let lose = Command::Lose {
+        loss: LossKind::Burst(0, 1000),
+        seed: 2_147_483_646,
+        packets: 0,
+    };
+    let words = [
+        "lose",
+        "--seed=2147483646",
+        "--loss",
+        "burst:0:1000",
+        "--packets=0",
+    ];
+    assert_eq!(rt; read(rt.alloc(), words.as_slice())?, Some(lose));
+    let show = Command::Show { packets: 7 };
+    assert_eq!(rt; read(rt.alloc(), &["show", "--packets=7"])?, Some(show));
     Ok(())
 }
 
@@ -181,6 +217,10 @@ fn options_that_are_not_the_commands_are_usage(rt: HostRuntime) -> Result<(), Fa
             &["encode", "--width=3"],
             &["encode", "--codec=2d", "--n1=3"],
             &["encode", "--codec=2d", "--max-n=10"],
+            &["lose", "--draws=1"],
+            &["lose", "--loss=none", "--loss=none"],
+            &["show", "--loss=none"],
+            &["show", "--seed=1"],
         ],
     )
 }
@@ -200,6 +240,10 @@ fn values_out_of_their_ranges_are_usage(rt: HostRuntime) -> Result<(), Fail> {
             &["decode", "--early="],
             &["decode", "--early", ""],
             &["decode", "--early", "--packets=3"],
+            &["lose", "--loss=even:1001"],
+            &["lose", "--loss="],
+            &["lose", "--seed=0"],
+            &["show", "--packets=16777217"],
         ],
     )
 }

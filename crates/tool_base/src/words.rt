@@ -3,7 +3,10 @@ ghost use Rattle.std.specs.Prelude.{◌≡◌, ◌<◌, IfOk, IfSome, drop, leng
 ghost use Rattle.tool_base.specs.Commands.{IsInRange, command_after, command_of, command_word_of};
 
 use crate::Command;
-use crate::command::{decode_options, encode_options, read_decode, read_encode};
+use crate::command::{
+    decode_options, encode_options, lose_options, read_decode, read_encode, read_lose, read_show,
+    show_options,
+};
 use crate::options::read_options;
 use fec_base::{NoMemory, Words};
 use std::alloc::Global;
@@ -49,6 +52,8 @@ fn read_texts(alloc: Global, words: &[&str]) -> Result<Option<Command>, NoMemory
 enum CommandWord {
     Encode,
     Decode,
+    Lose,
+    Show,
 }
 
 // The command that the word names.
@@ -60,6 +65,12 @@ fn read_command_word(word: &str) -> Option<CommandWord>
     }
     if word == "decode" {
         return Some(CommandWord::Decode);
+    }
+    if word == "lose" {
+        return Some(CommandWord::Lose);
+    }
+    if word == "show" {
+        return Some(CommandWord::Show);
     }
     None
 }
@@ -78,6 +89,14 @@ fn read_after(alloc: Global, word: CommandWord, words: &[&str]) -> Result<Option
         },
         CommandWord::Decode => match read_options(alloc, &decode_options(), words)? {
             Some(given) => Ok(Some(read_decode(&given))),
+            None => Ok(None),
+        },
+        CommandWord::Lose => match read_options(alloc, &lose_options(), words)? {
+            Some(given) => Ok(Some(read_lose(&given))),
+            None => Ok(None),
+        },
+        CommandWord::Show => match read_options(alloc, &show_options(), words)? {
+            Some(given) => Ok(Some(read_show(&given))),
             None => Ok(None),
         },
     }
