@@ -23,6 +23,7 @@ pub mod Refusing
 pub mod Determining
 pub mod Taking
 pub mod Running
+pub mod PassRuns
 pub mod MatrixSizes
 pub mod OneFirstNullWord
 pub mod OneOutcome
@@ -37,6 +38,7 @@ pub mod NoFault
 pub mod DecodedFiles
 pub mod ToldSymbols
 pub mod CleanDecodes
+pub mod CleanPasses
 pub mod EncodedThenDecoded
 pub mod OutcomeSets
 pub mod CleanEncodes

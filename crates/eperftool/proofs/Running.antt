@@ -1,6 +1,9 @@
 -- What a run does, by what its words ask for.
 use Rattle.std.proofs.Common.{◌≡◌, Bool, List, [], ℕ, true, false, inl, inr, refl, arith, ⊎_elim, Option, Some, None}
 use Rattle.std.proofs.KnownBytes.{Consumes-nil, Keeps-refl}
+use Rattle.std.specs.Io.KnownBytes.{Consumes}
+use Rattle.packet_pass.specs.declared.kind.Pass.{Pass}
+use Rattle.packet_pass.specs.declared.kind.Pass.TheVariants.{Lose, Show}
 use Rattle.tool_base.specs.Commands.{command_of}
 use Rattle.tool_base.specs.Status.{fault_text}
 use Rattle.tool_base.specs.declared.command.Command.{Command}
@@ -9,9 +12,11 @@ use Rattle.tool_base.specs.declared.status.Status.{Status}
 use Rattle.tool_base.specs.declared.status.Status.TheVariants as status
 use Rattle.eperftool.specs.Options.{is_later}
 use Rattle.eperftool.specs.Outside.{Hearing, Stream, Streams}
+use Rattle.eperftool.specs.PassRun.{IsPassRun}
 use Rattle.eperftool.specs.Run.{IsCommandRun, IsRun, IsUnbuiltRun, IsUsageRun}
 use Rattle.eperftool.specs.Written.{IsTold}
 use Rattle.eperftool.specs.declared.refusal.Refusal.TheVariants.{Memory}
+use Rattle.eperftool.proofs.PassRuns.{ends_refused}
 use Rattle.eperftool.proofs.Telling.{keeps_same}
 
 module _ (words : List (List ℕ)) (before after : Streams) (watch watch_now : Hearing) (ended : Status) where
@@ -35,7 +40,13 @@ module _ (before : Streams) (report : Stream) where
   pub runs_unbuilt : (ended : Status) → ended ≡ status.Unbuilt → IsTold (fault_text status.Unbuilt) before.report report → IsUnbuiltRun before after ended
   runs_unbuilt ended is told = rw is (record { ends = refl; input = refl; output = refl; told = told })
 
-  -- without memory for the words any command ends so
+  -- without memory for the words a pass takes nothing
+  pass_out : (pass : Pass) (most : ℕ) (ended : Status) → ended ≡ status.Memory → IsTold (fault_text status.Memory) before.report report → IsPassRun pass most before after ended
+  pass_out pass most ended is told =
+      let none : Consumes before.input.bytes before.input.bytes [] = Consumes-nil before.input.bytes in
+      ends_refused pass most before after ended Memory is (Keeps-refl before.output.bytes, inl none) ([], none) told
+
+  -- and any command ends so
   pub runs_out : (watch : Hearing) (asked : Option Command) (ended : Status) → ended ≡ status.Memory → IsTold (fault_text status.Memory) before.report report → IsCommandRun asked before after watch watch ended
   runs_out watch None ended is told = rw is (record { ends = inr refl; input = refl; output = refl; told = told })
   runs_out watch (Some (command.Encode shape symbol block max_n)) ended is told = rw is (record {
@@ -56,3 +67,5 @@ module _ (before : Streams) (report : Stream) where
     taken = ([], Consumes-nil before.input.bytes);
     ends = ((λ (other : status.Memory ≡ status.Usage). cc), (λ (other : status.Memory ≡ status.Unbuilt). cc));
   })
+  runs_out watch (Some (command.Lose loss seed most)) ended is told = pass_out (Lose loss seed) most ended is told
+  runs_out watch (Some (command.Show most)) ended is told = pass_out Show most ended is told

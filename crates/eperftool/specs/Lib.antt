@@ -9,6 +9,7 @@ pub mod Told
 pub mod Refusals
 pub mod EncodeRun
 pub mod DecodeRun
+pub mod PassRun
 pub mod Run
 pub mod Laws
 pub mod RoundTrip

@@ -1,6 +1,5 @@
 -- What the words of an `encode` say of a file.
 use Rattle.std.specs.Prelude.{◌≡◌, ℕ, ◌-◌, Bool, false, List, [], ◌∷◌, Some, codes}
-use Rattle.std.specs.List.{list_any}
 use Rattle.std.specs.Str.{bytes_eq}
 use Rattle.packet_file.specs.Header.{HeaderFields}
 use Rattle.tool_base.specs.BlockCode.{seed_field}
@@ -36,4 +35,4 @@ header_for o size = record {
 -- the first word is that of a command that isn't built yet
 abbrev pub is_later : List (List ℕ) → Bool
 is_later [] = false
-is_later (word ∷ words) = list_any (bytes_eq word) (codes "lose" ∷ codes "show" ∷ codes "perf" ∷ [])
+is_later (word ∷ words) = bytes_eq word (codes "perf")

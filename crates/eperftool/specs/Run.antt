@@ -1,5 +1,6 @@
 -- What a run does.
 use Rattle.std.specs.Prelude.{Bool, List, None, Option, Some, true, false, ℕ, ◌≡◌, ◌≢◌, ◌⊎◌}
+use Rattle.packet_pass.specs.declared.kind.Pass.TheVariants.{Lose, Show}
 use Rattle.tool_base.specs.Commands.{command_of}
 use Rattle.tool_base.specs.Status.{fault_text}
 use Rattle.tool_base.specs.declared.command.Command.{Command}
@@ -8,6 +9,7 @@ use Rattle.eperftool.specs.DecodeRun.{IsDecodeRun}
 use Rattle.eperftool.specs.EncodeRun.{IsEncodeRun}
 use Rattle.eperftool.specs.Options.{is_later}
 use Rattle.eperftool.specs.Outside.{Hearing, Streams}
+use Rattle.eperftool.specs.PassRun.{IsPassRun}
 use Rattle.eperftool.specs.Written.{IsTold}
 use Rattle.tool_base.specs.declared.command.Command.TheVariants as command
 use Rattle.tool_base.specs.declared.status.Status.TheVariants as status
@@ -37,6 +39,10 @@ IsCommandRun (Some (command.Encode shape symbol block max_n)) before after watch
     before after ended
 IsCommandRun (Some (command.Decode draws early most)) before after watch watch_now ended =
     IsDecodeRun draws early most before after watch watch_now ended
+IsCommandRun (Some (command.Lose loss seed most)) before after watch watch_now ended =
+    IsPassRun (Lose loss seed) most before after ended
+IsCommandRun (Some (command.Show most)) before after watch watch_now ended =
+    IsPassRun Show most before after ended
 
 -- what a run does, by whether the words ask for what comes later, and by the command that they mean
 abbrev pub IsAskedRun : Bool → Option Command → Streams → Streams → Hearing → Hearing → Status

@@ -1,10 +1,14 @@
 -- What runs come to where nothing outside fails.
 use Rattle.std.specs.Prelude.{◌≡◌, ◌⊎◌, ◌≤◌, ℕ, Bool, List, [], ◌++◌, length, Option, Some}
-use Rattle.std.specs.Io.KnownBytes.{Appends, Keeps}
+use Rattle.std.specs.Io.KnownBytes.{Appends, IsAtEnd, Keeps}
 use Rattle.fec_base.specs.Causes.{Rose}
 use Rattle.sparse_rows.specs.Matrix.{Matrix}
 use Rattle.packet_file.specs.Header.{HeaderFields, IsHeader, header_bytes, total_symbols}
 use Rattle.packet_file.specs.Packets.{Packet, spelled}
+use Rattle.packet_pass.specs.Pass.{head_of, loss_in, seed_in, texts}
+use Rattle.packet_pass.specs.Thinned.{kept_of}
+use Rattle.packet_pass.specs.declared.kind.Pass.{Pass}
+use Rattle.packet_pass.specs.declared.kind.Passed.{Passed}
 use Rattle.tool_base.specs.declared.status.Status.{Status}
 use Rattle.tool_base.specs.declared.status.Status.TheVariants as status
 use Rattle.eperftool.specs.Options.{header_for}
@@ -13,6 +17,7 @@ use Rattle.eperftool.specs.Received.{IsPacketFile}
 use Rattle.eperftool.specs.Told.{HasCodes}
 use Rattle.eperftool.specs.EncodeRun.{Encoded, IsEncodeRun}
 use Rattle.eperftool.specs.DecodeRun.{Decided, IsDecodeRun}
+use Rattle.eperftool.specs.PassRun.{IsPassRun, pass_report}
 use Rattle.eperftool.specs.RoundTrip.{AreAmong, AreSent, LackNullWords}
 use Rattle.eperftool.specs.declared.options.EncodeOptions.{EncodeOptions}
 
@@ -85,3 +90,27 @@ EncodedIsDecoded = (o : EncodeOptions) (first last : Streams) (object file : Lis
     watch watch_now ended
     → OrMemory ended
     ((ended ≡ status.Done) × Appends before.output.bytes after.output.bytes object)
+
+-- how many packets of a file there are, and how many of them a pass keeps
+abbrev pub counts_of : Pass → List Packet → Passed
+counts_of pass packets = record {
+  packets = length packets;
+  kept = kept_of (loss_in pass) (seed_in pass) (length packets);
+}
+
+-- the input was taken to its end, and the text and the report of these packets were written
+pub record WritesText (pass : Pass) (h : HeaderFields) (packets : List Packet)
+    (before after : Streams) : Type 0 where
+  pub ended : IsAtEnd after.input.bytes
+  pub written : Appends before.output.bytes after.output.bytes
+      (head_of pass h ++ texts pass packets)
+  pub reported : Appends before.report.bytes after.report.bytes
+      (pass_report pass (counts_of pass packets))
+
+-- a `lose` or a `show` doesn't refuse a packet file: its text is written
+abbrev pub PacketFileIsPassed : Type 0
+PacketFileIsPassed = (pass : Pass) (h : HeaderFields) (packets : List Packet) (bytes : List ℕ)
+    (most : ℕ) (before after : Streams) (ended : Status)
+    → IsPacketFile h most packets bytes → before.input.bytes ≡ Some bytes
+    → NothingFails before after → IsPassRun pass most before after ended
+    → OrMemory ended ((ended ≡ status.Done) × WritesText pass h packets before after)

@@ -6,7 +6,7 @@ ghost use Rattle.eperftool.specs.RoundTrip.{DecodeUndoesEncode, GivenBackByAll};
 ghost use Rattle.eperftool.specs.RoundTrip.{GivenBackWithoutNullWords, NeverDecodedWrong};
 ghost use Rattle.eperftool.specs.RoundTrip.{NeverToldWrong, OutcomesGoBySet};
 ghost use Rattle.eperftool.specs.RunLaws.{ChosenAreDecoded, EncodedIsDecoded, ObjectIsEncoded};
-ghost use Rattle.eperftool.specs.RunLaws.{PacketFileIsDecoded};
+ghost use Rattle.eperftool.specs.RunLaws.{PacketFileIsDecoded, PacketFileIsPassed};
 
 use null_witness::{null_words_follow_the_closure, null_words_show_what_is_open};
 use packet_file::headers_and_packets_have_one_spelling;
@@ -147,4 +147,13 @@ pub fn what_was_encoded_is_decoded()
     closure_is_least();
     null_words_follow_the_closure();
     null_words_hold_a_source_symbol();
+}
+
+/// A `lose` or a `show` of a packet file refuses nothing, within the limits and where nothing
+/// outside fails: the text of its header and of its packets is written and reported; or memory
+/// lacks.
+pub fn packet_files_are_passed()
+    ensures { PacketFileIsPassed }
+{
+    headers_and_packets_have_one_spelling();
 }

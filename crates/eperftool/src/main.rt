@@ -1,8 +1,9 @@
 //! The program `eperftool`: words and an input in, a packet file or its object and a report out.
 //! `run` is its top call, whose contract says what a user gets; `main` hands it the standard
 //! streams. It stands on `tool_base` for the words and for the code of a block, on `packet_file`
-//! for headers and packets, on `fec_session` for codewords and decoders, on `peeling` and
-//! `sparse_rows` for the definitions that its contracts cite, and on `fec_base` for the outside.
+//! for headers and packets, on `packet_pass` for packet files with losses and their lines, on
+//! `fec_session` for codewords and decoders, on `peeling` and `sparse_rows` for definitions that
+//! its contracts cite, and on `fec_base` for the outside.
 #![tactic(auto)]
 
 mod block_codes;
@@ -13,6 +14,7 @@ mod laws;
 mod object;
 mod options;
 mod outcome;
+mod pass_run;
 mod receive;
 mod refusal;
 mod report;
@@ -29,6 +31,7 @@ pub use laws::{one_encoding_for_each_object, one_reading_for_each_file};
 pub use object::read_object;
 pub use options::{EncodeOptions, is_later};
 pub use outcome::{outcome_status, put_decode_report};
+pub use pass_run::run_pass;
 pub use receive::{Received, receive};
 pub use refusal::{Refusal, refuse};
 use report::put_numbered;

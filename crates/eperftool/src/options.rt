@@ -49,6 +49,5 @@ pub fn is_later(words: &Words) -> bool
     if words.count() == 0 {
         return false;
     }
-    let word = words.word(0);
-    word == "lose" || word == "show" || word == "perf"
+    words.word(0) == "perf"
 }

@@ -7,21 +7,24 @@ ghost use Rattle.eperftool.specs.Outside.{hearing, seen};
 ghost use Rattle.eperftool.specs.Run.{AsksNoDecode, IsRun};
 ghost use Rattle.eperftool.specs.declared.refusal.Refusal.{Refusal};
 
-use crate::{EncodeOptions, Ended, Refusal, decode, encode, is_later, refuse, tell};
+use crate::{EncodeOptions, Ended, Refusal, decode, encode, is_later, refuse, run_pass, tell};
 use fec_base::{NoMemory, Sink, Source, Watch, Words};
+use packet_pass::Pass;
 use std::alloc::Global;
 use tool_base::{Command, Status, read_words};
 
 /// Runs a command: the words say which, the input is read, the output and the report are written,
 /// and the watch comes back.
 ///
-/// Today the commands are `encode` and `decode` (docs/COMMANDS.md). At `Done` the output is the
-/// packet file of the whole input, or the object that the packets of the input determine, and the
-/// report its counts. At `WriteFault` the output has a front of that, or the whole of it where the
-/// report alone failed. An `encode` that ends for want of memory may have written a part of the
-/// file, from its front on. At every other status nothing was written to the output. A `decode`
-/// tells the watch, after each packet and before a further byte is read, of each symbol that this
-/// packet makes known.
+/// Today the commands are `encode`, `decode`, `lose` and `show` (docs/COMMANDS.md). At `Done` the
+/// output is the packet file of the whole input, the object that the packets of the input
+/// determine, the packet file without the packets that are lost, or its lines; and the report is
+/// its counts. At `WriteFault` the output has a front of that, or the whole of it where the report
+/// alone failed. An `encode` that ends for want of memory may have written a part of the file,
+/// from its front on. A `lose` or a `show` whose input fails or is no packet file has written the
+/// text of the packets before. At every other status nothing was written to the output. A
+/// `decode` tells the watch, after each packet and before a further byte is read, of each symbol
+/// that this packet makes known.
 pub fn run<S: Source, K: Sink, R: Sink>(
     alloc: Global,
     words: &Words,
@@ -112,5 +115,22 @@ fn run_words<S: Source, K: Sink, R: Sink, W: Watch>(
                 },
             ),
         ) => decode(alloc, draws, early, packets, input, output, report, watch),
+        Ok(
+            Some(
+                Command::Lose {
+                    loss,
+                    seed,
+                    packets,
+                },
+            ),
+        ) => {
+            let lose = Pass::Lose { loss, seed };
+            let status = run_pass(alloc, lose, packets, input, output, report);
+            Ended { status, watch }
+        }
+        Ok(Some(Command::Show { packets })) => {
+            let status = run_pass(alloc, Pass::Show, packets, input, output, report);
+            Ended { status, watch }
+        }
     }
 }

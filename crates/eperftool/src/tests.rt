@@ -5,10 +5,12 @@ use std::process::Abort;
 use std::test::Fail;
 use tool_base::Status;
 
+mod cut_passes;
 mod damaged;
 mod faults;
 mod hostile;
 mod many;
+mod passes;
 mod refused;
 mod told;
 
@@ -499,7 +501,7 @@ fn words_that_mean_no_command_are_usage(rt: HostRuntime) -> Result<(), Fail> {
 
 #[test]
 fn commands_that_come_later_are_unbuilt(rt: HostRuntime) -> Result<(), Fail> {
-    let cases: [&[&str]; 3] = [&["lose", "--"], &["show"], &["perf", "--k=3", "--k=3"]];
+    let cases: [&[&str]; 2] = [&["perf"], &["perf", "--k=3", "--k=3"]];
     for words in cases {
         // The first read of this input would be a fault.
         let left = run_over(rt.alloc(), words, b"01234", Some(0), 200, 200)?;

@@ -1,5 +1,5 @@
 // What a decode tells, packet by packet, and where it stops.
-use super::STAIRCASE_FILE;
+use super::{STAIRCASE_FILE, run_over};
 use crate::run;
 use fec_base::{ListWatch, MemSink, MemSource, Place, Source, Watch, Words};
 use std::alloc::Global;
@@ -34,9 +34,9 @@ fn run_watched(alloc: Global, words: &[&str], bytes: &[u8], places: u32) -> Resu
         all.push(word)?;
     }
     let mut input = MemSource::new(alloc, bytes, 200, None)?;
-    let mut output = MemSink::new(alloc, 100, 70)?;
+    let mut output = MemSink::new(alloc, 10_000, 70)?;
     let mut report = MemSink::new(alloc, 200, 1)?;
-    let watch: Box<dyn Watch> = Box::new(alloc, ListWatch::new(alloc, places, 100)?)?;
+    let watch: Box<dyn Watch> = Box::new(alloc, ListWatch::new(alloc, places, 10_000)?)?;
     let ended = run(alloc, &all, &mut input, &mut output, &mut report, watch);
     let mut rest = [0u8; 100];
     let unread = input.read(&mut rest).unwrap_or(0);
@@ -227,5 +227,46 @@ fn a_watch_that_fails_ends_the_decode_at_its_packet(rt: HostRuntime) -> Result<(
     assert_eq!(rt; left.output.bytes().len(), 0);
     assert_eq!(rt; left.unread, 5);
     check_told(&rt, &left, &[(1, 2), (2, 4)]);
+    Ok(())
+}
+
+// What the file of an object of ten source symbols makes known without its first packet.
+const REBUILT: [u32; 5] = [0, 11, 12, 13, 14];
+
+#[test]
+fn a_lost_packet_is_rebuilt(rt: HostRuntime) -> Result<(), Fail> {
+    let alloc = rt.alloc();
+    let mut object = Vec::with_capacity(alloc, 10_000)?;
+    for i in 0..10_000u32 {
+        object.push((i % 251) as u8)?;
+    }
+    let file = run_over(alloc, &["encode"], &object, None, 20_000, 100)?;
+    assert_eq!(rt; file.report.bytes(), b"blocks 1\npackets 15\n".as_slice());
+    assert_eq!(rt; file.output.bytes().len(), 15_446);
+    let lose = ["lose", "--loss=even:200", "--seed=7"];
+    let lost = run_over(alloc, &lose, file.output.bytes(), None, 20_000, 100)?;
+    assert_eq!(rt; lost.report.bytes(), b"read 15 kept 14\n".as_slice());
+    assert_eq!(rt; lost.output.bytes().len(), 14_418);
+    let left = run_watched(alloc, &["decode"], lost.output.bytes(), 10)?;
+    assert_eq!(rt; left.status, Status::Done);
+    assert_eq!(rt; left.output.bytes(), object.as_slice());
+    assert_eq!(rt;
+        left.report.bytes(),
+        b"block 0 peeled\npackets 14\n".as_slice()
+    );
+    assert_eq!(rt; left.watch.told_count(), 5);
+    for (i, esi) in REBUILT.iter().enumerate() {
+        let place = Place {
+            block: 0,
+            esi: *esi,
+        };
+        assert_eq!(rt; left.watch.told_place(i as u32), Some(place));
+    }
+    // The first ten packets suffice: after the tenth, symbol 10, all source is known.
+    let early = run_watched(alloc, &["decode", "--early=yes"], lost.output.bytes(), 10)?;
+    assert_eq!(rt;
+        early.report.bytes(),
+        b"block 0 peeled\npackets 10\n".as_slice()
+    );
     Ok(())
 }

@@ -33,3 +33,19 @@ returns-in-Ok-Some-Decode-clause-runs g c =
     let run = c.decode.ensures.decodes in
     runs_asked c.args.words.now _ _ _ _ _ (sym c.is_later.ensures ∙ c.if-is_later.false) (Some (command.Decode d.draws d.early d.packets)) means
     (record { done = run.done; cut = run.cut; undecided = run.undecided; refused = run.refused; unwritten = run.unwritten; taken = run.taken; ends = run.ends })
+
+pub returns-in-Ok-Some-Lose-clause-runs : goal.returns-in-Ok-Some-Lose-clause-runs
+returns-in-Ok-Some-Lose-clause-runs g c =
+    let l = c.in-Ok-Some-Lose in
+    let means : command_of c.args.words.now ≡ Some (command.Lose l.loss l.seed l.packets) = search rules in
+    let run = c.run_pass-status.ensures in
+    runs_asked c.args.words.now _ _ _ _ _ (sym c.is_later.ensures ∙ c.if-is_later.false) (Some (command.Lose l.loss l.seed l.packets)) means
+    (record { done = run.done; cut = run.cut; refused = run.refused; taken = run.taken; ends = run.ends })
+
+pub returns-in-Ok-Some-Show-clause-runs : goal.returns-in-Ok-Some-Show-clause-runs
+returns-in-Ok-Some-Show-clause-runs g c =
+    let s = c.in-Ok-Some-Show in
+    let means : command_of c.args.words.now ≡ Some (command.Show s.packets) = search rules in
+    let run = c.run_pass-status-in-Ok-Some-Show.ensures in
+    runs_asked c.args.words.now _ _ _ _ _ (sym c.is_later.ensures ∙ c.if-is_later.false) (Some (command.Show s.packets)) means
+    (record { done = run.done; cut = run.cut; refused = run.refused; taken = run.taken; ends = run.ends })
