@@ -1,5 +1,5 @@
 #!/bin/sh
-# Times `encode` and `decode` of large files by build/eperftool, which `make build` makes (EPERFTOOL names
+# Times the commands over large files by build/eperftool, which `make build` makes (EPERFTOOL names
 # another program), each beside `cat` of the same input in the same run.
 set -eu
 cd "$(dirname "$0")/.."
@@ -52,24 +52,8 @@ print(f"  {name:8}{elapsed:8.3f} s {speed:9.1f} MB/s, {own:7.3f} s of processor 
 END
 }
 
-# lose SEED THOUSANDTHS SIZE FROM TO: the packet file FROM, of packets of SIZE bytes, without the packets that
-# are lost, each with this chance, by a generator that starts at the seed.
-lose() {
-    python3 - "$@" <<'END'
-import random, sys
-
-seed, share, size = map(int, sys.argv[1:4])
-chance = random.Random(seed)
-with open(sys.argv[4], "rb") as file:
-    data = memoryview(file.read())
-kept = [data[:26]]
-for at in range(26, len(data), size):
-    if chance.random() * 1000 >= share:
-        kept.append(data[at : at + size])
-with open(sys.argv[5], "wb") as file:
-    file.write(b"".join(kept))
-END
-}
+# lose SEED THOUSANDTHS FROM TO: the packet file FROM without the packets that are lost, each with this chance.
+lose() { "$program" lose --loss=even:"$2" --seed="$1" < "$3" > "$4" 2> report; }
 
 # object BYTES: a file of so many random bytes.
 object() { head -c "$1" /dev/urandom > object; }
@@ -83,8 +67,11 @@ measure cat 67108864 object copy cat
 measure encode 67108864 object packets "$program" encode
 measure cat 67108864 packets copy cat
 measure decode 67108864 packets again "$program" decode && back
+echo '  its packet file of 96 MiB'
+measure lose 101000000 packets some "$program" lose --loss=even:200
+measure show 101000000 packets lines "$program" show
 echo '  a fifth of the packets lost'
-lose 2 200 1028 packets some
+lose 2 200 packets some
 measure decode 67108864 some again "$program" decode && back
 
 echo '16 MiB, --symbol=16 --block=10000'
@@ -96,7 +83,7 @@ measure decode 16777216 packets again "$program" decode && back
 echo '40 MiB, --symbol=16 --block=10000 --max-n=15000, a fifth of the packets lost'
 object 41943040
 "$program" encode --symbol=16 --block=10000 --max-n=15000 < object > packets 2> report
-lose 1 200 20 packets some
+lose 1 200 packets some
 measure cat 41943040 some copy cat
 measure decode 41943040 some again "$program" decode && back
 
@@ -106,17 +93,17 @@ object 5120000
 echo '  all packets, so that peeling alone gives it'
 measure decode 5120000 packets again "$program" decode && back
 echo '  31 % of the packets lost, so that elimination gives it'
-lose 14 310 1028 packets some
+lose 1 310 packets some
 measure decode 5120000 some again "$program" decode && back
 
 echo 'one block of 20,000 source symbols of 64 bytes, --max-n=30000, 31 % of the packets lost'
 object 1280000
 "$program" encode --symbol=64 --block=20000 --max-n=30000 < object > packets 2> report
-lose 14 310 68 packets some
+lose 1 310 packets some
 measure decode 1280000 some again "$program" decode && back
 
 echo 'one block of 40,000 source symbols of one byte, --max-n=60000, the first 20,000 packets lost: a null word'
 object 40000
 "$program" encode --symbol=1 --block=40000 --max-n=60000 < object > packets 2> report
-{ head -c 26 packets; tail -c +$((27 + 5 * 20000)) packets; } > some
+"$program" lose --loss=first:20000 < packets > some 2> report
 measure decode 40000 some again "$program" decode || true

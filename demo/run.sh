@@ -1,7 +1,7 @@
 #!/bin/sh
 # Shows the main job on a real file, once for each codec: encode it, lose some packets, decode it from
 # the others, and compare. Then too many are lost. It runs build/eperftool where `make build` has made
-# it (EPERFTOOL names another program), and else the sources unproved, which are built twice for it.
+# it (EPERFTOOL names another program), and else the sources unproved, which are built three times for it.
 set -eu
 cd "$(dirname "$0")/.."
 
@@ -14,14 +14,14 @@ codecs='staircase triangle 2d'
 program=${EPERFTOOL:-$PWD/build/eperftool}
 here=$(mktemp -d)
 trap 'rm -rf "$here"' EXIT
-mkdir "$here/encode" "$here/decode" "$here/out"
+mkdir "$here/encode" "$here/lose" "$here/decode" "$here/out"
 
 if [ -x "$program" ]; then
     echo "Program: $program"
 elif command -v rt > /dev/null; then
     program=
     echo "Program: UNPROVED. No build/eperftool is there, so 'rt try' builds the sources without a proof, once"
-    echo "         for each command, in about half a minute. 'make build' proves and builds the program."
+    echo "         for each command, in some three minutes. 'make build' proves and builds the program."
 else
     echo "There is neither build/eperftool nor 'rt' on the PATH: see 'Set-up' in README.md." >&2
     exit 1
@@ -33,8 +33,8 @@ bytes() { tail -c "+$(($2 + 1))" "$1" | head -c "$3"; }
 # The bytes of standard input in hexadecimal.
 hex() { od -An -v -tx1 | tr -d '\n' | sed 's/^ //'; }
 
-# The number behind a word of a report.
-number() { sed -n "s/^$2 \([0-9]*\)$/\1/p" "$1"; }
+# The number behind a word at the end of a line of a report.
+number() { sed -n "s/^\(.* \)*$2 \([0-9]*\)$/\2/p" "$1"; }
 
 # stop WHY: ends the demo.
 stop() {
@@ -84,6 +84,8 @@ output_size() {
         echo 0
     elif [ "$1" = encode ]; then
         echo $((26 + $(number "$here/out/$2.report" packets) * packet))
+    elif [ "$1" = lose ]; then
+        echo $((26 + $(number "$here/out/$2.report" kept) * packet))
     else
         echo "$length"
     fi
@@ -96,19 +98,13 @@ show() {
     echo "    status $1: $report"
 }
 
-# lose NAME NEW: the packet file NAME as the case NEW of `decode`, without some packets: `first` are kept,
-# and then `lost` are lost and `kept` are kept, again and again.
-lose() {
-    tail -c +27 "$here/out/$1" > "$here/packets"
-    {
-        head -c $((26 + first * packet)) "$here/out/$1"
-        at=$((first + lost))
-        while [ "$at" -lt "$count" ]; do
-            dd if="$here/packets" bs=$packet skip=$at count="$kept" 2> /dev/null
-            at=$((at + kept + lost))
-        done
-    } > "$here/decode/$2"
-    : > "$here/decode/$2.args"
+# given COMMAND FILE NAME [WORD..]: the case NAME of a command, with a file and words.
+given() {
+    cp "$2" "$here/$1/$3"
+    words=$here/$1/$3.args
+    shift 3
+    [ $# -eq 0 ] || printf '%s\n' "$@" > "$words"
+    [ $# -ne 0 ] || : > "$words"
 }
 
 # Which symbols peeling reaches goes by the sizes of the blocks and not by the bytes, so the length is fixed.
@@ -118,43 +114,39 @@ echo
 echo "The file: the first $length bytes of README.md, the pages of docs/ and the definitions."
 
 for codec in $codecs; do
-    cp "$here/object" "$here/encode/$codec"
-    printf -- '--codec=%s\n--symbol=%s\n--block=%s\n' "$codec" $symbol $block > "$here/encode/$codec.args"
+    given encode "$here/object" "$codec" --codec="$codec" --symbol=$symbol --block=$block
 done
 echo "--width=$width" >> "$here/encode/2d.args"
 run_cases encode
+for codec in $codecs; do
+    case $codec in
+    2d) given lose "$here/out/$codec" "$codec-some" --loss=first:$width ;;
+    *) given lose "$here/out/$codec" "$codec-some" --loss=even:125 ;;
+    esac
+    given lose "$here/out/$codec" "$codec-few" --loss=first:120
+done
+run_cases lose
+for name in $codecs; do
+    given decode "$here/out/$name-some" "$name-back"
+    given decode "$here/out/$name-few" "$name-nothing"
+done
+run_cases decode
+
 for codec in $codecs; do
     echo
     echo "\$ eperftool encode $(tr '\n' ' ' < "$here/encode/$codec.args")< file > $codec"
     show 0 "$codec"
     echo "    header $(head -c 26 "$here/out/$codec" | hex)"
-done
-
-for codec in $codecs; do
-    count=$(number "$here/out/$codec.report" packets)
-    blocks=$(number "$here/out/$codec.report" blocks)
-    case $codec in
-    2d) first=50 lost=$width kept=$((count / blocks - lost)) ;;
-    *) first=7 lost=1 kept=7 ;;
-    esac
-    lose "$codec" "$codec-some"
-    first=0 lost=120 kept=$count
-    lose "$codec" "$codec-few"
-done
-run_cases decode
-for codec in $codecs; do
-    echo
-    case $codec in
-    2d) echo "$width packets in a row are lost in each block:" ;;
-    *) echo "Each eighth packet is lost:" ;;
-    esac
-    echo "\$ eperftool decode < $codec-some > again"
+    echo "\$ eperftool lose $(cat "$here/lose/$codec-some.args") < $codec > some"
     show 0 "$codec-some"
-    cmp "$here/object" "$here/out/$codec-some"
+    echo "\$ eperftool decode < some > again"
+    show 0 "$codec-back"
+    cmp "$here/object" "$here/out/$codec-back"
     echo "    The output is the file, byte for byte (cmp)."
-    echo "The first 120 packets are lost, so the first block has fewer left than it has source symbols:"
-    echo "\$ eperftool decode < $codec-few > nothing"
-    show 8 "$codec-few"
-    cmp /dev/null "$here/out/$codec-few"
-    echo "    The output is empty."
+    echo "\$ eperftool lose $(cat "$here/lose/$codec-few.args") < $codec > few"
+    show 0 "$codec-few"
+    echo "\$ eperftool decode < few > nothing"
+    show 8 "$codec-nothing"
+    cmp /dev/null "$here/out/$codec-nothing"
+    echo "    The first block has fewer packets left than it has source symbols. The output is empty."
 done

@@ -3,10 +3,10 @@
 
     fuzz.py [CASES [SEED]]
 
-Each case is an `encode` of a random object with random words, and a `decode` of its packet file after packets were lost,
-repeated, shuffled, changed or cut, or header bytes were changed. Output, report and status have to be those of the second
-reading. A difference is printed with its words and its input in hexadecimal, and ends the run with status 1. EPERFTOOL
-names another program than build/eperftool.
+Each case is an `encode` of a random object with random words, and a `decode`, a `lose` and a `show` of its packet file
+after packets were lost, repeated, shuffled, changed or cut, or header bytes were changed. Output, report and status have
+to be those of the second reading. A difference is printed with its words and its input in hexadecimal, and ends the run
+with status 1. EPERFTOOL names another program than build/eperftool.
 """
 import os
 import pathlib
@@ -18,11 +18,11 @@ PROGRAM = os.environ.get("EPERFTOOL", pathlib.Path(__file__).resolve().parent.pa
 
 
 class Ends(Exception):
-    """A run that ends with a status and a report, and no output."""
+    """A run that ends with a status, a report, and what it wrote by then."""
 
-    def __init__(self, status, report):
+    def __init__(self, status, report, output=b""):
         super().__init__(report)
-        self.status, self.report = status, report
+        self.status, self.report, self.output = status, report, output
 
 
 # ---- codes
@@ -105,6 +105,9 @@ class Header:
     def __init__(self, codec, length, symbol, n1m3, group, block, max_n, seed):
         self.codec, self.length, self.symbol, self.n1 = codec, length, symbol, n1m3 + 3
         self.n1m3, self.group, self.block, self.max_n, self.seed = n1m3, group, block, max_n, seed
+
+    def name(self):
+        return {3: "staircase", 4: "triangle", 200: "2d"}[self.codec]
 
     def spelled(self):
         return (
@@ -250,19 +253,10 @@ def outcome(rows, k, n, arrivals, size):
     return " peeled\n" if peeled else " solved\n", b"".join(symbols[c] for c in range(k))
 
 
-def decode(data, limit, early, most):
-    header = read_header(data)
-    codes = header.codes(limit)
+def packets(data, header, most, over=lambda: False):
+    """Number, block, position and bytes of each packet behind the header, until it is over."""
     length, at, count = 4 + header.symbol, 26, 0
-    arrivals = [[] for _ in codes]
-
-    def whole():
-        return all(
-            set(range(k)) <= closure(rows, [p for p, _ in came])
-            for k, rows, came in zip(header.sizes, codes, arrivals)
-        )
-
-    while not (early and whole()) and at < len(data):
+    while not over() and at < len(data):
         piece = data[at : at + length]
         if count == most:
             raise Ends(7, "fault: limit packets\n")
@@ -270,12 +264,28 @@ def decode(data, limit, early, most):
             raise Ends(5, f"fault: packet {count} short {len(piece)}\n")
         identifier = int.from_bytes(piece[:4], "big")
         block, position = identifier >> 20, identifier & 0xFFFFF
-        if block >= len(codes):
+        if block >= len(header.counts):
             raise Ends(5, f"fault: packet {count} block {block}\n")
         if position >= header.counts[block]:
             raise Ends(5, f"fault: packet {count} symbol {position}\n")
-        arrivals[block].append((position, piece[4:]))
+        yield count, block, position, piece
         at, count = at + length, count + 1
+
+
+def decode(data, limit, early, most):
+    header = read_header(data)
+    codes = header.codes(limit)
+    count, arrivals = 0, [[] for _ in codes]
+
+    def whole():
+        return early and all(
+            set(range(k)) <= closure(rows, [p for p, _ in came])
+            for k, rows, came in zip(header.sizes, codes, arrivals)
+        )
+
+    for _, block, position, piece in packets(data, header, most, whole):
+        arrivals[block].append((position, piece[4:]))
+        count += 1
     report, sources = "", []
     for block, (rows, k, n, came) in enumerate(zip(codes, header.sizes, header.counts, arrivals)):
         words, source = outcome(rows, k, n, came, header.symbol)
@@ -287,6 +297,49 @@ def decode(data, limit, early, most):
     if None in sources:
         return 8, b"", report
     return 0, b"".join(sources)[: header.length], report
+
+
+def keeper(loss, seed):
+    """Whether the next packet is kept, by the packet's number."""
+    kind, *numbers = loss.split(":")
+    numbers, draws, state = [int(number) for number in numbers], Draws(seed, -1), {"good": True}
+
+    def burst(_):
+        value = draws.draw(1000)
+        state["good"] = value >= numbers[0] if state["good"] else value < numbers[1]
+        return state["good"]
+
+    return {
+        "none": lambda _: True,
+        "first": lambda count: count >= numbers[0],
+        "even": lambda _: draws.draw(1000) >= numbers[0],
+        "burst": burst,
+    }[kind]
+
+
+def lose(data, loss, seed, most):
+    header, keep = read_header(data), keeper(loss, seed)
+    read, kept, text = 0, 0, data[:26]
+    try:
+        for count, _, _, piece in packets(data, header, most):
+            read += 1
+            if keep(count):
+                kept, text = kept + 1, text + piece
+    except Ends as end:
+        raise Ends(end.status, end.report, text) from None
+    return 0, text, f"read {read} kept {kept}\n"
+
+
+def show(data, most):
+    h = read_header(data)
+    code = f"{h.name()} width {h.seed}" if h.codec == 200 else f"{h.name()} n1 {h.n1} seed {h.seed}"
+    text = f"codec {code} length {h.length} symbol {h.symbol} block {h.block} max {h.max_n} blocks {len(h.counts)}\n"
+    try:
+        for count, block, position, piece in packets(data, h, most):
+            text += f"packet {count} block {block} symbol {position} bytes {piece[4:20].hex()}\n"
+    except Ends as end:
+        raise Ends(end.status, end.report, text.encode()) from None
+    return 0, text.encode(), ""
 
 
 # ---- cases
@@ -308,6 +361,11 @@ def random_words(chance):
         words.append(f"--draws={limit}")
     number = {"staircase": 3, "triangle": 4}[codec]
     return words, limit, lambda size: Header(number, size, symbol, n1 - 3, 1, block, max_n, seed)
+
+
+def random_loss(chance):
+    few, many = chance.randint(0, 40), chance.choice([0, 1000, chance.randint(0, 1000)])
+    return chance.choice(["none", f"first:{few}", f"even:{many}", f"burst:{chance.randint(0, 1000)}:{many}"])
 
 
 def damaged(chance, file, size):
@@ -340,7 +398,7 @@ def expected(call):
     try:
         return call()
     except Ends as end:
-        return end.status, b"", end.report
+        return end.status, end.output, end.report
 
 
 def check(words, data, wanted, seen):
@@ -378,6 +436,10 @@ def main():
             limit = chance.randint(0, 300)
             options.append(f"--draws={limit}")
         check(options, file, expected(lambda: decode(file, limit, early, most)), seen)  # noqa: B023
+        most, loss, start = chance.randint(0, 60), random_loss(chance), chance.choice([1, chance.randint(1, 2147483646)])
+        options = [f"--loss={loss}", f"--seed={start}", f"--packets={most}"]
+        check(["lose", *options], file, expected(lambda: lose(file, loss, start, most)), seen)  # noqa: B023
+        check(["show", f"--packets={most}"], file, expected(lambda: show(file, most)), seen)  # noqa: B023
     statuses = ", ".join(f"{count} of status {status}" for status, count in sorted(seen.items()))
     print(f"{sum(seen.values())} runs from seed {seed}, no difference: {statuses}")
 

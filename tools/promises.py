@@ -14,7 +14,7 @@ PAGE = TOP / "docs" / "PROMISES.md"
 FUNCTION = re.compile(r"^\s*(?:pub(?:\([a-z]+\))? )?(?:const )?fn (\w+)")
 TYPE = re.compile(r"^(?:impl(?:<[^>]*>)? (?:(\w+)(?:<[^>]*>)? for )?(\w+)|pub (?:struct|enum|trait) (\w+))")
 CLAUSE = re.compile(r"^\s*ensures\*? (\w+) \{")
-FIELD = re.compile(r"^  pub (\w+) :")
+FIELD = re.compile(r"^ {2,4}pub (\w+) :")
 
 
 def functions(crate):
