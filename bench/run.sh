@@ -107,3 +107,40 @@ object 40000
 "$program" encode --symbol=1 --block=40000 --max-n=60000 < object > packets 2> report
 "$program" lose --loss=first:20000 < packets > some 2> report
 measure decode 40000 some again "$program" decode || true
+
+echo 'the first null word as the unknowns grow: k source symbols of one byte, 1.5 k in all, the first k / 2 lost'
+for k in 5000 10000 20000 40000; do
+    object "$k"
+    "$program" encode --symbol=1 --block="$k" --max-n=$((k * 3 / 2)) < object > packets 2> report
+    "$program" lose --loss=first:$((k / 2)) < packets > some 2> report
+    echo "  k = $k"
+    measure decode "$k" some again "$program" decode || true
+done
+
+echo '100 blocks of 20,000 source symbols of 16 bytes, --max-n=30000, all packets in a mixed order'
+object 32000000
+"$program" encode --symbol=16 --block=20000 --max-n=30000 < object > packets 2> report
+
+# mix PACKETS: the packets in a mixed order within each run of so many.
+mix() {
+    python3 - "$1" <<'END'
+import random, sys
+
+with open("packets", "rb") as file:
+    data = file.read()
+packets, count = [data[at : at + 20] for at in range(26, len(data), 20)], int(sys.argv[1])
+chance, mixed = random.Random(1), []
+for at in range(0, len(packets), count):
+    part = packets[at : at + count]
+    chance.shuffle(part)
+    mixed += part
+with open("some", "wb") as file:
+    file.write(data[:26] + b"".join(mixed))
+END
+}
+echo '  block after block'
+mix 30000
+measure decode 32000000 some again "$program" decode && back
+echo '  across all blocks'
+mix 3000000
+measure decode 32000000 some again "$program" decode && back
