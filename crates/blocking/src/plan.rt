@@ -3,6 +3,8 @@ ghost use Rattle.std.specs.Prelude.{◌≡◌, ◌<◌, ◌≤◌, ◌*◌, leng
 ghost use Rattle.std.specs.Prelude.{OnErr};
 ghost use Rattle.blocking.specs.Blocks.{block_count, block_sizes, scaled};
 
+use std::error::Error;
+use std::fmt;
 use std::marker::Model;
 
 // How many source blocks an object has at most.
@@ -11,6 +13,14 @@ const MOST_BLOCKS: u64 = 4096;
 /// The object would have more than 4,096 source blocks.
 #[derive(Clone, Copy, Debug, PartialEq, Eq)]
 pub struct TooManyBlocks;
+
+impl fmt::Display for TooManyBlocks {
+    fn fmt<W: fmt::Write>(&self, f: &mut fmt::Formatter<W>) -> fmt::Result {
+        write!(f, "more than 4096 blocks")
+    }
+}
+
+impl Error for TooManyBlocks {}
 
 /// How many source symbols each source block of an object has: at most 4,096 blocks, and at most
 /// 268,435,456 source symbols. The larger blocks come first.

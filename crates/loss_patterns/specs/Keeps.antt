@@ -2,7 +2,7 @@
 -- are counted from 0, and packet i has the draw number i + 1. The losses in bursts are those of the
 -- two-state channel of E. N. Gilbert (Bell System Technical Journal 39, 1960), whose bad state
 -- loses each packet.
-use Rattle.std.specs.Prelude.{◌≡◌, ℕ, ◌+◌, Bool, true, nat_le, nat_lt, if◌then◌else◌}
+use Rattle.std.specs.Prelude.{ℕ, ◌+◌, Bool, true, nat_le, nat_lt, if◌then◌else◌}
 use Rattle.std.proofs.Common.{zero, suc}
 use Rattle.park_miller.specs.Generator.{after, drawn}
 use Rattle.loss_patterns.specs.declared.kind.LossKind.{LossKind}
@@ -33,20 +33,3 @@ draws_for loss.None decided = 0
 draws_for (loss.First lost) decided = 0
 draws_for (loss.Even chance) decided = decided
 draws_for (loss.Burst begins ends) decided = decided
-
--- whether no burst is on after so many packets; without bursts none ever is
-abbrev pub good_after : LossKind → ℕ → ℕ → Bool
-good_after (loss.Burst begins ends) start decided = is_good begins ends start decided
-good_after _ start decided = true
-
--- a loss, how many packets it has decided, and whether no burst is on
-pub record Deciding : Type 0 where
-  pub kind : LossKind
-  pub decided : ℕ
-  pub good : Bool
-
--- the loss began with the generator in the first state, which its own draws alone brought to the
--- second
-pub record Follows (l : Deciding) (start state : ℕ) : Type 0 where
-  pub drew : state ≡ after (draws_for l.kind l.decided) start
-  pub good_is : l.good ≡ good_after l.kind start l.decided

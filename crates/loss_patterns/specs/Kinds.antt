@@ -1,18 +1,11 @@
 -- The losses and their texts.
-use Rattle.std.specs.Prelude.{◌≤◌, ℕ, Bool, ◌==◌, List, Option, Some, None, ⊤, codes}
+use Rattle.std.specs.Prelude.{ℕ, Bool, ◌==◌, List, Option, Some, None, codes}
 use Rattle.std.specs.Prelude.{if◌then◌else◌, option_map, option_and_then}
 use Rattle.std.specs.List.{before_first, after_first}
 use Rattle.std.specs.Str.{bytes_eq}
 use Rattle.loss_patterns.specs.Numbers.{number_in}
 use Rattle.loss_patterns.specs.declared.kind.LossKind.{LossKind}
 use Rattle.loss_patterns.specs.declared.kind.LossKind.TheVariants as loss
-
--- the numbers of a loss are in their ranges
-abbrev pub IsLoss : LossKind → Type 0
-IsLoss loss.None = ⊤
-IsLoss (loss.First lost) = lost ≤ 16777216
-IsLoss (loss.Even chance) = chance ≤ 1000
-IsLoss (loss.Burst begins ends) = (begins ≤ 1000) × (ends ≤ 1000)
 
 -- the byte that stands before each number of a loss (58)
 abbrev pub is_colon : ℕ → Bool

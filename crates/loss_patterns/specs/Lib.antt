@@ -1,4 +1,6 @@
 pub mod Numbers
 pub mod Kinds
+pub mod Ranges
 pub mod Keeps
+pub mod Deciding
 pub mod Order

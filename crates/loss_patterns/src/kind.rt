@@ -1,7 +1,8 @@
 // The losses, and the texts that name them.
 ghost use Rattle.std.specs.Prelude.{◌≡◌, IfSome};
 ghost use Rattle.std.specs.List.{before_first, after_first};
-ghost use Rattle.loss_patterns.specs.Kinds.{IsLoss, burst_of, is_colon, loss_named, loss_of};
+ghost use Rattle.loss_patterns.specs.Kinds.{burst_of, is_colon, loss_named, loss_of};
+ghost use Rattle.loss_patterns.specs.Ranges.{IsLoss};
 
 use crate::read_number;
 

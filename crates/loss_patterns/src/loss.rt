@@ -1,7 +1,8 @@
 // Decisions, packet by packet.
 ghost use Rattle.std.specs.Prelude.{◌≡◌, ℕ, ◌+◌, ◌<◌, true};
-ghost use Rattle.loss_patterns.specs.Kinds.{IsLoss};
-ghost use Rattle.loss_patterns.specs.Keeps.{Follows, keeps};
+ghost use Rattle.loss_patterns.specs.Ranges.{IsLoss};
+ghost use Rattle.loss_patterns.specs.Keeps.{keeps};
+ghost use Rattle.loss_patterns.specs.Deciding.{Follows};
 
 use crate::LossKind;
 use park_miller::ParkMiller;
@@ -20,8 +21,8 @@ pub struct Loss {
 }
 
 impl Model for Loss {
-    ghost use Rattle.loss_patterns.specs.Kinds.{IsLoss};
-    ghost use Rattle.loss_patterns.specs.Keeps.{Deciding};
+    ghost use Rattle.loss_patterns.specs.Ranges.{IsLoss};
+    ghost use Rattle.loss_patterns.specs.Deciding.{Deciding};
 
     ghost Value = { Deciding };
 

@@ -6,6 +6,8 @@ ghost use Rattle.oti_fields.specs.Faults.{fault_number, field_fault, grid_fault,
 use crate::{Codec, Oti};
 use parity_2d::size_2d;
 use park_miller::MAX_SEED;
+use std::error::Error;
+use std::fmt;
 
 /// The first fault of the fields of a transmission information, in this order.
 #[derive(Clone, Copy, Debug, PartialEq, Eq)]
@@ -28,6 +30,26 @@ pub enum FieldFault {
     /// width and the greatest block length.
     NotFixed = 8,
 }
+
+impl fmt::Display for FieldFault {
+    fn fmt<W: fmt::Write>(&self, f: &mut fmt::Formatter<W>) -> fmt::Result {
+        match self {
+            FieldFault::SymbolZero => write!(f, "the symbol length is 0"),
+            FieldFault::GroupNotOne => write!(f, "a packet doesn't have one symbol"),
+            FieldFault::BlockZero => write!(f, "the block length is 0"),
+            FieldFault::MaxBelowBlock => write!(f, "n is below the block length"),
+            FieldFault::MaxTooLarge => write!(f, "n is above 65536"),
+            FieldFault::SeedRange => write!(f, "the seed is 0 or above 2147483646"),
+            FieldFault::WidthZero => write!(f, "the width is 0"),
+            FieldFault::NotFixed => write!(
+                f,
+                "a field of the grid isn't the one that follows from the others"
+            ),
+        }
+    }
+}
+
+impl Error for FieldFault {}
 
 impl FieldFault {
     /// The number of the fault, from 1 on.

@@ -14,7 +14,7 @@ pub struct Oti {
     pub length: u64,
     /// The length of an encoding symbol in bytes: 16 bits.
     pub symbol: u32,
-    /// N1 - 3, where N1 is how many rows a source symbol is in: 3 bits.
+    /// N1 - 3: 3 bits. A source symbol takes min(N1, n - k) turns at being put into a row.
     pub n1m3: u8,
     /// G, how many encoding symbols a packet has: 5 bits.
     pub group: u8,

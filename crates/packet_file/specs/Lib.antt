@@ -2,4 +2,5 @@ pub mod Header
 pub mod Packets
 pub mod Faults
 pub mod Reading
+pub mod Taking
 pub mod Laws

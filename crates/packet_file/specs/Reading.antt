@@ -1,14 +1,9 @@
 -- What reading takes from an input.
-use Rattle.std.specs.Prelude.{◌<◌, ◌≤◌, ◌+◌, ℕ, List, length, Option}
+use Rattle.std.specs.Prelude.{◌<◌, ◌+◌, ℕ, List, length, Option}
 use Rattle.std.specs.Io.KnownBytes.{Consumes, IsAtEnd}
 use Rattle.packet_file.specs.Header.{HeaderFields}
 use Rattle.packet_file.specs.Faults.{HasHeaderFault, HasPacketFault}
 use Rattle.packet_file.specs.declared.fault.FileFault.{FileFault}
-
--- at most so many bytes were taken
-abbrev pub TakesAtMost : Option (List ℕ) → Option (List ℕ) → ℕ → Type 0
-TakesAtMost left left_now most = (bytes : List ℕ) × Consumes left left_now bytes
-    × (length bytes ≤ most)
 
 -- fewer bytes were taken than so many
 abbrev pub TakesFewer : Option (List ℕ) → Option (List ℕ) → ℕ → Type 0

@@ -1,5 +1,7 @@
 // What may be wrong with a packet file.
 use oti_fields::FieldFault;
+use std::error::Error;
+use std::fmt;
 
 /// A size of a file that is limited.
 #[derive(Clone, Copy, Debug, PartialEq, Eq)]
@@ -44,3 +46,45 @@ pub enum FileFault {
     /// The input failed.
     ReadFault,
 }
+
+impl fmt::Display for Limit {
+    fn fmt<W: fmt::Write>(&self, f: &mut fmt::Formatter<W>) -> fmt::Result {
+        match self {
+            Limit::Length => write!(f, "the length of the object"),
+            Limit::BlockBytes => write!(f, "the bytes of a block's symbols"),
+            Limit::AllSymbols => write!(f, "the number of all symbols"),
+            Limit::AllBytes => write!(f, "the bytes of all symbols"),
+        }
+    }
+}
+
+impl fmt::Display for FileFault {
+    fn fmt<W: fmt::Write>(&self, f: &mut fmt::Formatter<W>) -> fmt::Result {
+        match self {
+            FileFault::ShortHeader { have } => write!(f, "the header ends after {have} bytes"),
+            FileFault::BadMagic => write!(f, "this is no packet file"),
+            FileFault::BadVersion(version) => write!(f, "unknown version {version}"),
+            FileFault::BadCodec(number) => write!(f, "unknown codec {number}"),
+            FileFault::BadReserved => write!(f, "a reserved byte isn't 0"),
+            FileFault::Field(fault) => write!(f, "header: {fault}"),
+            FileFault::ShortPacket { index, have } => write!(
+                f,
+                "packet {index} ends after {have} bytes"
+            ),
+            FileFault::NoSuchBlock { index, sbn } => write!(
+                f,
+                "packet {index}: there is no block {sbn}"
+            ),
+            FileFault::NoSuchSymbol { index, esi } => write!(
+                f,
+                "packet {index}: its block has no symbol {esi}"
+            ),
+            FileFault::TooLarge(limit) => write!(f, "too large: {limit}"),
+            FileFault::TooManyBlocks => write!(f, "more than 4096 blocks"),
+            FileFault::TooManyPackets => write!(f, "more packets than may be read"),
+            FileFault::ReadFault => write!(f, "the source failed"),
+        }
+    }
+}
+
+impl Error for FileFault {}

@@ -7,7 +7,8 @@ ghost use Rattle.fec_base.specs.Causes.{HasCause, Rose};
 ghost use Rattle.oti_fields.specs.Fields.{codec_number};
 ghost use Rattle.packet_file.specs.Header.{IsHeader, header_bytes};
 ghost use Rattle.packet_file.specs.Faults.{HasHeaderFault};
-ghost use Rattle.packet_file.specs.Reading.{FailsAtHeader, TakesAtMost, TakesFewer};
+ghost use Rattle.packet_file.specs.Reading.{FailsAtHeader, TakesFewer};
+ghost use Rattle.packet_file.specs.Taking.{TakesAtMost};
 
 use crate::{FileFault, Header};
 use fec_base::{ReadFailed, Sink, Source, WriteFailed, read_full, write_all};

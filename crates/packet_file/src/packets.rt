@@ -6,7 +6,8 @@ ghost use Rattle.fec_base.specs.Bytes.{AppendsFront};
 ghost use Rattle.fec_base.specs.Causes.{HasCause, Rose};
 ghost use Rattle.packet_file.specs.Packets.{IsIdOf, packet_bytes};
 ghost use Rattle.packet_file.specs.Faults.{HasPacketFault};
-ghost use Rattle.packet_file.specs.Reading.{FailsAtPacket, TakesAtMost, TakesFewer};
+ghost use Rattle.packet_file.specs.Reading.{FailsAtPacket, TakesFewer};
+ghost use Rattle.packet_file.specs.Taking.{TakesAtMost};
 
 use crate::{FileFault, Header};
 use fec_base::{ReadFailed, Sink, Source, WriteFailed, read_full, write_all};

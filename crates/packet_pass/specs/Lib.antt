@@ -1,5 +1,6 @@
 pub mod Thinned
 pub mod Lines
 pub mod Pass
+pub mod Ranges
 pub mod Progress
 pub mod Writing

@@ -2,12 +2,11 @@
 -- it ends. The first pair of bytes is what is left of the input, before and after; the second is
 -- what the output holds. A count of faults before and after goes with each.
 use Rattle.std.specs.Prelude.{◌≡◌, ◌≢◌, ◌<◌, ◌≤◌, ◌+◌, ◌⊎◌, ℕ, Bool, List, [], ◌++◌, length, take}
-use Rattle.std.specs.Prelude.{All, Option, ⊤, if◌then◌else◌}
+use Rattle.std.specs.Prelude.{All, Option, if◌then◌else◌}
 use Rattle.std.specs.List.{enumerate_from, flat_map}
 use Rattle.std.specs.Io.KnownBytes.{Appends, Consumes, IsAtEnd, Keeps}
 use Rattle.fec_base.specs.Bytes.{AppendsFront}
 use Rattle.fec_base.specs.Causes.{Rose}
-use Rattle.loss_patterns.specs.Kinds.{IsLoss}
 use Rattle.loss_patterns.specs.Keeps.{keeps}
 use Rattle.loss_patterns.specs.declared.kind.LossKind.{LossKind}
 use Rattle.loss_patterns.specs.declared.kind.LossKind.TheVariants as loss
@@ -24,11 +23,6 @@ use Rattle.packet_pass.specs.declared.kind.Pass.TheVariants.{Lose, Show}
 use Rattle.packet_pass.specs.declared.kind.Passed.{Passed}
 use Rattle.packet_pass.specs.declared.kind.PassRefusal.{PassRefusal}
 use Rattle.packet_pass.specs.declared.kind.PassRefusal.TheVariants.{Memory, File, Output}
-
--- the loss and its seed are in their ranges
-abbrev pub IsPass : Pass → Type 0
-IsPass (Lose kind seed) = IsLoss kind × ((1 ≤ seed) × (seed ≤ 2147483646))
-IsPass Show = ⊤
 
 -- the loss of a pass; who shows keeps all
 abbrev pub loss_in : Pass → LossKind

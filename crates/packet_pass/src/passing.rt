@@ -4,7 +4,8 @@ ghost use Rattle.std.specs.Prelude.{length, Ok, Err, IfOk, IfErr};
 ghost use Rattle.std.specs.Io.KnownBytes.{Consumes, IsAtEnd};
 ghost use Rattle.packet_file.specs.Header.{IsHeader};
 ghost use Rattle.packet_file.specs.Packets.{Packet};
-ghost use Rattle.packet_pass.specs.Pass.{EndsWhole, IsPass, PassEnds, PassesWhole, Stands};
+ghost use Rattle.packet_pass.specs.Pass.{EndsWhole, PassEnds, PassesWhole, Stands};
+ghost use Rattle.packet_pass.specs.Ranges.{IsPass};
 ghost use Rattle.packet_pass.specs.Writing.{EndsAtPacket, EndsEarly, HasWritten, PassesOne};
 
 use crate::writer::{PassWriter, put_head, put_packet};

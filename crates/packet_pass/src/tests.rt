@@ -1,5 +1,5 @@
 ghost use Rattle.std.specs.Prelude.{◌≤◌};
-ghost use Rattle.loss_patterns.specs.Kinds.{IsLoss};
+ghost use Rattle.loss_patterns.specs.Ranges.{IsLoss};
 
 use super::*;
 use fec_base::{MemSink, MemSource, NoMemory};

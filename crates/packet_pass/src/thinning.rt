@@ -1,6 +1,6 @@
 // The packets that a loss keeps of a sequence, with the loss's own generator.
 ghost use Rattle.std.specs.Prelude.{◌≡◌, ◌+◌, ◌<◌, ◌≤◌};
-ghost use Rattle.loss_patterns.specs.Kinds.{IsLoss};
+ghost use Rattle.loss_patterns.specs.Ranges.{IsLoss};
 ghost use Rattle.loss_patterns.specs.Keeps.{keeps};
 ghost use Rattle.packet_pass.specs.Thinned.{kept_of};
 
@@ -19,7 +19,7 @@ pub struct Thinning {
 
 impl Model for Thinning {
     ghost use Rattle.std.specs.Prelude.{◌≡◌, ◌≤◌};
-    ghost use Rattle.loss_patterns.specs.Keeps.{Follows};
+    ghost use Rattle.loss_patterns.specs.Deciding.{Follows};
     ghost use Rattle.packet_pass.specs.Progress.{Thinned};
     ghost use Rattle.packet_pass.specs.Thinned.{kept_of};
 

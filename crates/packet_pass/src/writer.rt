@@ -4,7 +4,8 @@ ghost use Rattle.std.specs.Io.KnownBytes.{Appends};
 ghost use Rattle.fec_base.specs.Bytes.{AppendsFront};
 ghost use Rattle.fec_base.specs.Causes.{HasCause};
 ghost use Rattle.packet_file.specs.Packets.{packet_bytes};
-ghost use Rattle.packet_pass.specs.Pass.{IsPass, head_of, kept_in, text_of};
+ghost use Rattle.packet_pass.specs.Pass.{head_of, kept_in, text_of};
+ghost use Rattle.packet_pass.specs.Ranges.{IsPass};
 ghost use Rattle.packet_pass.specs.Writing.{HasWritten};
 
 use crate::Pass;

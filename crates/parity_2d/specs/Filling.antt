@@ -1,4 +1,4 @@
--- The matrix while its rows are filled.
+-- Inside: the matrix while its rows are filled.
 use Rattle.std.specs.Prelude.{ℕ, ◌+◌, min, length, List, [], ◌∷◌, ◌++◌, map}
 use Rattle.std.specs.Int.{div_ceil}
 use Rattle.std.specs.List.{range_with_len}

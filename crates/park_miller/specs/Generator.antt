@@ -1,7 +1,7 @@
 -- The generator: the "minimal standard" of Park and Miller (RFC 5170, section 5.7), with draws
 -- scaled in whole numbers. `next` and `drawn` unfold only on request, since who draws needs nothing
 -- of their arithmetic.
-use Rattle.std.specs.Prelude.{ℕ, ◌*◌, ◌/◌, ◌%◌, ◌<◌, ◌≤◌}
+use Rattle.std.specs.Prelude.{ℕ, ◌*◌, ◌/◌, ◌%◌}
 use Rattle.std.proofs.Common.{zero, suc}
 
 -- the modulus, the prime 2^31 - 1
@@ -11,10 +11,6 @@ modulus = 2147483647
 -- the multiplier, a primitive root of the modulus
 abbrev pub multiplier : ℕ
 multiplier = 16807
-
--- the states are the numbers from 1 to the modulus less one
-abbrev pub IsState : ℕ → Type 0
-IsState state = (1 ≤ state) × (state < modulus)
 
 -- the state after one step
 unfoldable pub next : ℕ → ℕ

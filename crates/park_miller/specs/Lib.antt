@@ -1,3 +1,4 @@
 pub mod Generator
+pub mod States
 pub mod Shuffle
 pub mod LimitedDraws

@@ -1,8 +1,11 @@
 ghost use Rattle.std.specs.Prelude.{◌≡◌, ℕ, ◌-◌, ◌*◌, ◌/◌, ◌%◌, ◌^◌, ◌<◌, ◌≤◌, ◌↔◌, ◌⊎◌, length};
 ghost use Rattle.std.specs.Prelude.{IsErr, IfOk, IsPermutation};
-ghost use Rattle.park_miller.specs.Generator.{modulus, IsState, next, after, drawn};
+ghost use Rattle.park_miller.specs.Generator.{modulus, next, after, drawn};
+ghost use Rattle.park_miller.specs.States.{IsState};
 ghost use Rattle.park_miller.specs.Shuffle.{shuffled};
 
+use std::error::Error;
+use std::fmt;
 use std::marker::Model;
 
 /// The greatest seed.
@@ -20,6 +23,14 @@ const MULTIPLIER: u64 = 16_807;
 /// A seed that is 0 or above [`MAX_SEED`].
 #[derive(Clone, Copy, Debug, PartialEq, Eq)]
 pub struct BadSeed;
+
+impl fmt::Display for BadSeed {
+    fn fmt<W: fmt::Write>(&self, f: &mut fmt::Formatter<W>) -> fmt::Result {
+        write!(f, "the seed is 0 or above 2147483646")
+    }
+}
+
+impl Error for BadSeed {}
 
 /// The "minimal standard" generator of Park and Miller.
 ///

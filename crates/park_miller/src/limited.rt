@@ -2,11 +2,21 @@ ghost use Rattle.std.specs.Prelude.{◌≡◌, ◌+◌, ◌<◌, ◌≤◌, ◌�
 ghost use Rattle.park_miller.specs.Generator.{next, drawn};
 
 use crate::generator::{MAX_BOUND, ParkMiller};
+use std::error::Error;
+use std::fmt;
 use std::marker::Model;
 
 /// No draw is left: as many have been used as the limit allows.
 #[derive(Clone, Copy, Debug, PartialEq, Eq)]
 pub struct Over;
+
+impl fmt::Display for Over {
+    fn fmt<W: fmt::Write>(&self, f: &mut fmt::Formatter<W>) -> fmt::Result {
+        write!(f, "no draw is left")
+    }
+}
+
+impl Error for Over {}
 
 /// A generator whose draws are counted, up to a limit.
 #[derive(Debug, PartialEq, Eq, Drop)]

@@ -9,7 +9,8 @@ use Rattle.fec_base.specs.Symbol.{IsSymbol, zero_symbol, xor, xor_sum}
 use Rattle.sparse_rows.specs.Matrix.{Matrix, HasShape, row_of, is_in}
 use Rattle.sparse_rows.specs.Codeword.{symbol_at, IsAssignment}
 use Rattle.sparse_rows.specs.Closure.{Set, IsWithin, outside, adding}
-use Rattle.sparse_rows.proofs.Algebra.{total, total_split, moved, right}
+use Rattle.sparse_rows.proofs.Algebra.{total_split, moved, right}
+use Rattle.sparse_rows.specs.Totals.{total}
 use Rattle.fec_base.proofs.SymbolBytes.{byte, byte_xor, same_bytes, length_xor}
 use Rattle.sparse_rows.proofs.Planes.{byte_laws, byte_sum, length_sum, zero_is_symbol}
 use Rattle.sparse_rows.proofs.Sets.{same_test, or_cases, or_first, true_or_false}

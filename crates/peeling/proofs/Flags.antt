@@ -7,7 +7,7 @@ use Rattle.std.proofs.lemmas.List.{map-id}
 use Rattle.std.proofs.lemmas.List.Filters.{length-filter_both}
 use Rattle.std.proofs.lemmas.List.FromFn.{filter_of_map_range_with_len_more, length-range_with_len}
 use Rattle.sparse_rows.specs.Closure.{Set, flagged, HasSameMembers, members, adding}
-use Rattle.peeling.specs.Decoder.{set_count}
+use Rattle.peeling.specs.Lookups.{set_count}
 use Rattle.peeling.specs.Peeled.{unset_count}
 use Rattle.sparse_rows.proofs.Sets.{true_or_false, or_none, or_true}
 

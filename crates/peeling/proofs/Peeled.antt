@@ -5,7 +5,8 @@ use Rattle.fec_base.specs.Symbol.{xor_sum, zero_symbol}
 use Rattle.sparse_rows.specs.Matrix.{Matrix, HasShape}
 use Rattle.sparse_rows.specs.Codeword.{IsAssignment, SumsToZeroWithin}
 use Rattle.sparse_rows.specs.Closure.{Set, IsWithin, HasSameMembers, outside, adding, round, closure}
-use Rattle.sparse_rows.proofs.Algebra.{total, one_left, closes}
+use Rattle.sparse_rows.proofs.Algebra.{one_left, closes}
+use Rattle.sparse_rows.specs.Totals.{total}
 use Rattle.fec_base.proofs.SymbolBytes.{byte, byte_zero, same_bytes}
 use Rattle.sparse_rows.proofs.Planes.{byte_laws, byte_sum, plane_zero, length_sum}
 use Rattle.peeling.specs.Agree.{Agree}

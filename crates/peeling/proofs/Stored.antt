@@ -10,7 +10,8 @@ use Rattle.sparse_rows.specs.Columns.{entries}
 use Rattle.sparse_rows.specs.Closure.{Set, flagged, HasSameMembers, members, round}
 use Rattle.peeling.specs.declared.peeler.Store.{Store}
 use Rattle.peeling.specs.declared.peeler.Peeler.TheInside.{Inside}
-use Rattle.peeling.specs.Decoder.{Decoder, IsDecoder, HasAllSource, set_count, kept}
+use Rattle.peeling.specs.Decoder.{Decoder, IsDecoder, kept}
+use Rattle.peeling.specs.Lookups.{HasAllSource, set_count}
 use Rattle.peeling.specs.Stands.{StandsFor, Receives}
 use Rattle.peeling.specs.Peeled.{IsLaid, IsPeeled, unset_count}
 use Rattle.peeling.specs.declared.unknowns.Unknowns.{Unknowns}

@@ -7,7 +7,8 @@ use Rattle.fec_base.specs.Symbol.{xor_sum, zero_symbol}
 use Rattle.sparse_rows.specs.Matrix.{Matrix, HasShape, row_of, is_in}
 use Rattle.sparse_rows.specs.Codeword.{IsAssignment, SumsToZero}
 use Rattle.sparse_rows.specs.Closure.{Set, IsWithin, HasSameMembers, outside, adding, round}
-use Rattle.sparse_rows.proofs.Algebra.{total, total_split, right}
+use Rattle.sparse_rows.proofs.Algebra.{total_split, right}
+use Rattle.sparse_rows.specs.Totals.{total}
 use Rattle.fec_base.proofs.SymbolBytes.{byte, byte_zero, same_bytes}
 use Rattle.sparse_rows.proofs.Planes.{byte_laws, byte_sum, length_sum}
 use Rattle.sparse_rows.proofs.Sets.{or_cases, or_first, or_second, or_none, outside_one, outside_within, round_row, true_or_false}

@@ -1,11 +1,10 @@
 -- What contracts see of a decoder.
-use Rattle.std.specs.Prelude.{◌≡◌, ◌≤◌, ◌<◌, ◌&&◌, not, ℕ, Bool, true, false, List, [], length}
-use Rattle.std.specs.Prelude.{replicate, count_by, All}
+use Rattle.std.specs.Prelude.{◌≡◌, ◌≤◌, ℕ, Bool, List, length}
+use Rattle.std.specs.Prelude.{All}
 use Rattle.fec_base.specs.Symbol.{IsSymbol}
 use Rattle.sparse_rows.specs.Matrix.{Matrix, IsCode}
 use Rattle.sparse_rows.specs.Codeword.{symbol_at}
-use Rattle.sparse_rows.specs.Closure.{HasSameMembers, flagged, members, closure}
-use Rattle.sparse_rows.specs.Columns.{entries}
+use Rattle.sparse_rows.specs.Closure.{HasSameMembers, flagged, closure}
 
 -- a decoder
 pub record Decoder : Type 0 where
@@ -21,26 +20,9 @@ pub record Decoder : Type 0 where
   -- the positions that the last arrival rebuilt
   pub fresh : List ℕ
 
--- how many flags are set
-abbrev pub set_count : List Bool → ℕ
-set_count flags = count_by (λ flag. flag) flags
-
--- the positions whose flag is set now and was not before, rising
-abbrev pub new_positions : List Bool → List Bool → List ℕ
-new_positions before now = members (length now)
-    (λ position. flagged now position && not (flagged before position))
-
 -- the symbol that is kept at a position
 abbrev pub kept : Decoder → ℕ → List ℕ
 kept d = symbol_at d.len d.symbols
-
--- the number of pairs of a row and one of its columns whose symbol is known
-abbrev pub known_entries : Decoder → ℕ
-known_entries d = entries d.matrix (flagged d.known)
-
--- each source symbol is known
-abbrev pub HasAllSource : Decoder → Type 0
-HasAllSource d = (position : ℕ) → position < d.matrix.k → flagged d.known position ≡ true
 
 -- flags and a symbol for each position of a code; the known positions are the closure of those that
 -- arrived
@@ -53,12 +35,3 @@ pub record IsDecoder (d : Decoder) : Type 0 where
   pub symbols : length d.symbols ≡ d.matrix.n
   pub bytes : All (IsSymbol d.len) d.symbols
   pub closed : HasSameMembers (flagged d.known) (closure d.matrix (flagged d.arrived))
-
--- a decoder for the code and symbols of this length, at which nothing arrived
-pub record IsEmpty (m : Matrix) (size : ℕ) (d : Decoder) : Type 0 where
-  pub matrix : d.matrix ≡ m
-  pub len : d.len ≡ size
-  pub arrived : d.arrived ≡ replicate m.n false
-  pub known : d.known ≡ replicate m.n false
-  pub clashed : d.clashed ≡ false
-  pub fresh : d.fresh ≡ []

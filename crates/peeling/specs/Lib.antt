@@ -1,5 +1,6 @@
 pub mod Agree
 pub mod Decoder
+pub mod Lookups
 pub mod Stands
 pub mod Laws
 pub mod Outcome

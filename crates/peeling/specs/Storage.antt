@@ -4,7 +4,8 @@ use Rattle.std.specs.Vec.{vec_capacity}
 use Rattle.sparse_rows.specs.Matrix.{IsCode}
 use Rattle.sparse_rows.specs.Closure.{flagged, HasSameMembers, closure}
 use Rattle.peeling.specs.declared.peeler.Peeler.TheInside.{Inside}
-use Rattle.peeling.specs.Decoder.{Decoder, set_count, kept}
+use Rattle.peeling.specs.Decoder.{Decoder, kept}
+use Rattle.peeling.specs.Lookups.{set_count}
 use Rattle.peeling.specs.Peeled.{IsLaid}
 use Rattle.peeling.specs.Unknowns.{IsCounted}
 

@@ -4,8 +4,9 @@ ghost use Rattle.std.specs.Prelude.{IfSome, IfOk, IfErr, length, take, slice_set
 ghost use Rattle.sparse_rows.specs.Closure.{flagged};
 ghost use Rattle.sparse_rows.specs.Columns.{entries};
 ghost use Rattle.sparse_rows.specs.Matrix.{IsCode};
-ghost use Rattle.peeling.specs.Decoder.{set_count, kept, known_entries, HasAllSource, IsDecoder};
-ghost use Rattle.peeling.specs.Decoder.{IsEmpty};
+ghost use Rattle.peeling.specs.Decoder.{kept, IsDecoder};
+ghost use Rattle.peeling.specs.Lookups.{set_count, known_entries, HasAllSource};
+ghost use Rattle.peeling.specs.Lookups.{IsEmpty};
 ghost use Rattle.peeling.specs.Stands.{StandsFor, Receives};
 ghost use Rattle.peeling.specs.Outcome.{IsOutcome};
 ghost use Rattle.peeling.specs.Blank.{IsBlank};

@@ -6,7 +6,7 @@ ghost use Rattle.sparse_rows.specs.Matrix.{IsCode};
 ghost use Rattle.sparse_rows.specs.Codeword.{symbol_at};
 ghost use Rattle.sparse_rows.specs.Closure.{Set, flagged, members, adding};
 ghost use Rattle.sparse_rows.specs.Columns.{column_of, entries};
-ghost use Rattle.peeling.specs.Decoder.{new_positions, set_count};
+ghost use Rattle.peeling.specs.Lookups.{new_positions, set_count};
 ghost use Rattle.peeling.specs.Peeled.{IsLaid, unset_count, IsPeeledOut, PeelsTo};
 ghost use Rattle.peeling.specs.Unknowns.{IsCounted};
 ghost use Rattle.peeling.specs.Worklist.{seen_by, IsWorked, IsListed, NewRowsHold};

@@ -1,7 +1,8 @@
 -- What agrees on the source symbols and makes the rows sum alike agrees everywhere.
 use Rattle.std.proofs.Common.{⊎_elim, ◌≡◌, ℕ, zero, suc, ◌+◌, ◌<◌, ◌≤◌, [], length, get_or, arith, le_refl, add-zero, add-suc, ltb-true}
 use Rattle.sparse_rows.specs.Matrix.{Matrix, HasShape}
-use Rattle.sparse_rows.proofs.Algebra.{XorLaws, total, one_left}
+use Rattle.sparse_rows.proofs.Algebra.{XorLaws, one_left}
+use Rattle.sparse_rows.specs.Totals.{total}
 use Rattle.sparse_rows.proofs.Shape.{below, last_outside, last_or_before}
 
 module _ {G : Type 0} (o : G) (add : G → G → G) (laws : XorLaws G o add) where

@@ -5,7 +5,8 @@ use Rattle.std.proofs.lemmas.List.Elements.{All-replicate, All-nil, All-set}
 use Rattle.fec_base.specs.declared.outside.NoMemory.{NoMemory}
 use Rattle.smallvec.specs.SmallVec.{SmallVec}
 use Rattle.sparse_rows.specs.Matrix.{Matrix, row_of, with_column, with_entry}
-use Rattle.sparse_rows.specs.Rows.{IsRising, IsBuilt, lists_of, matrix_of_rows}
+use Rattle.sparse_rows.specs.Rows.{lists_of, matrix_of_rows}
+use Rattle.sparse_rows.specs.Building.{IsRising, IsBuilt}
 use Rattle.sparse_rows.proofs.Rising.{with_column_rises}
 use Rattle.sparse_rows.proofs.Flat.{rising_above}
 

@@ -3,7 +3,8 @@ use Rattle.std.proofs.Common.{true≢false, ⊎_elim, ◌≡◌, ℕ, zero, suc,
 use Rattle.std.proofs.lemmas.List.Elements.{All-nil, All-cons}
 use Rattle.sparse_rows.specs.Matrix.{Matrix}
 use Rattle.sparse_rows.specs.Closure.{Set, IsWithin, outside, round, rounds, closure}
-use Rattle.sparse_rows.proofs.Algebra.{XorLaws, total, one_left}
+use Rattle.sparse_rows.proofs.Algebra.{XorLaws, one_left}
+use Rattle.sparse_rows.specs.Totals.{total}
 use Rattle.sparse_rows.proofs.Sets.{round_cases, rounds_more, outside_one, round_holds}
 
 -- a row with no column outside a set lies within it

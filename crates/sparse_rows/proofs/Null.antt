@@ -11,7 +11,8 @@ use Rattle.std.proofs.lemmas.List.Elements.{All-filter, All-from_get_or}
 use Rattle.sparse_rows.specs.Matrix.{Matrix, HasShape, is_in}
 use Rattle.sparse_rows.specs.Closure.{Set, members}
 use Rattle.sparse_rows.specs.NullWord.{IsNullWord}
-use Rattle.sparse_rows.proofs.Algebra.{total, total_zero, total_same}
+use Rattle.sparse_rows.proofs.Algebra.{total_zero, total_same}
+use Rattle.sparse_rows.specs.Totals.{total}
 use Rattle.sparse_rows.proofs.Parity.{bit_laws, even_from, even_to}
 use Rattle.sparse_rows.proofs.Sets.{any_at, any_from, same_test, true_or_false, or_cases, or_first, or_second}
 use Rattle.sparse_rows.proofs.Agree.{agree_source}

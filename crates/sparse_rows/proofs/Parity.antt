@@ -3,7 +3,8 @@ use Rattle.std.proofs.Common.{◌≡◌, ℕ, ◌+◌, ◌%◌, Bool, true, fals
 use Rattle.std.proofs.Math.Bool.{xor as bool_xor}
 use Rattle.std.proofs.lemmas.List.Sums.{sum_by-cons}
 use Rattle.sparse_rows.specs.Closure.{Set}
-use Rattle.sparse_rows.proofs.Algebra.{XorLaws, total}
+use Rattle.sparse_rows.proofs.Algebra.{XorLaws}
+use Rattle.sparse_rows.specs.Totals.{total}
 
 pub bit_laws : XorLaws Bool false bool_xor
 unfolding bool_xor

@@ -8,7 +8,8 @@ use Rattle.std.proofs.lemmas.Bool.{cases_lt}
 use Rattle.fec_base.proofs.SymbolBytes.{byte, byte_xor, byte_zero, length_xor, length_zero, same_bytes}
 use Rattle.fec_base.specs.Symbol.{IsSymbol, xor, zero_symbol, xor_sum}
 use Rattle.sparse_rows.specs.Codeword.{symbol_at, SumsToZero, IsAssignment}
-use Rattle.sparse_rows.proofs.Algebra.{XorLaws, total}
+use Rattle.sparse_rows.proofs.Algebra.{XorLaws}
+use Rattle.sparse_rows.specs.Totals.{total}
 
 pub byte_laws : XorLaws ℕ 0 bit_xor
 byte_laws = record { left = xor_zero_l; comm = xor_comm; assoc = xor_assoc; self = xor_self }

@@ -7,7 +7,7 @@ use Rattle.std.proofs.lemmas.List.Elements.{All-head, All-tail, All-cons, All-ap
 use Rattle.std.proofs.lemmas.List.Sums.{sum_by-cons}
 use Rattle.std.proofs.lemmas.List.Kept.{IsStrictlyIncreasing-filter, AllPairs-from_increasing}
 use Rattle.sparse_rows.specs.Matrix.{with_column, is_in}
-use Rattle.sparse_rows.specs.Rows.{IsRising}
+use Rattle.sparse_rows.specs.Building.{IsRising}
 use Rattle.sparse_rows.proofs.Shape.{rising_tail}
 
 -- a test that passes everywhere keeps all

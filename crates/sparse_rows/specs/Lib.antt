@@ -1,5 +1,7 @@
 pub mod Matrix
 pub mod Rows
+pub mod Totals
+pub mod Building
 pub mod Codeword
 pub mod Closure
 pub mod Columns

@@ -1,24 +1,10 @@
 -- Inside: how the types of this crate keep a matrix.
 use Rattle.std.specs.Prelude.{◌≡◌, ℕ, ◌+◌, ◌-◌, ◌<◌, ◌≤◌, List, [], ◌∷◌, length, map, take, drop}
-use Rattle.std.specs.Prelude.{slice_index, slice_index_or, All, cond, ◌++◌}
+use Rattle.std.specs.Prelude.{slice_index, slice_index_or, cond, ◌++◌}
 use Rattle.std.specs.List.{range_with_len}
-use Rattle.std.specs.List.Sorted.{IsStrictlyIncreasing}
 use Rattle.smallvec.specs.SmallVec.{SmallVec}
 use Rattle.sparse_rows.specs.Matrix.{Matrix, IsCode, is_in}
 use Rattle.sparse_rows.specs.Columns.{column_in}
-
--- a row that is being built: its columns rise and lie below n
-pub record IsRising (n : ℕ) (row : List ℕ) : Type 0 where
-  pub rising : IsStrictlyIncreasing row
-  pub below : All (λ column. column < n) row
-
--- a matrix that is being built: n - k rows, whatever they hold
-pub record IsBuilt (m : Matrix) : Type 0 where
-  pub some : 1 ≤ m.k
-  pub within : m.k ≤ m.n
-  pub most : m.n ≤ 65536
-  pub count : m.k + length m.rows ≡ m.n
-  pub rows : All (IsRising m.n) m.rows
 
 -- the columns of each row that is kept by itself
 abbrev pub lists_of : List (SmallVec ℕ) → List (List ℕ)

@@ -2,7 +2,7 @@
 ghost use Rattle.std.specs.Prelude.{◌≡◌, ◌<◌, ◌≤◌, ◌-◌, not, replicate, [], length, count_by};
 ghost use Rattle.std.specs.Prelude.{nat_lt, take, drop, slice_index, All, IfOk, IfErr, OnOk, OnErr};
 ghost use Rattle.std.specs.List.Sorted.{IsStrictlyIncreasing};
-ghost use Rattle.sparse_rows.specs.Rows.{IsRising};
+ghost use Rattle.sparse_rows.specs.Building.{IsRising};
 ghost use Rattle.sparse_rows.specs.Matrix.{row_of, is_in, has_entry, with_column, with_entry};
 
 use fec_base::NoMemory;
@@ -22,7 +22,8 @@ pub struct RowsBuilder {
 
 impl Model for RowsBuilder {
     ghost use Rattle.sparse_rows.specs.Matrix.{Matrix};
-    ghost use Rattle.sparse_rows.specs.Rows.{matrix_of_rows, IsBuilt};
+    ghost use Rattle.sparse_rows.specs.Rows.{matrix_of_rows};
+    ghost use Rattle.sparse_rows.specs.Building.{IsBuilt};
 
     ghost Value = { Matrix };
 

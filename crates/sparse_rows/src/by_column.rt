@@ -1,6 +1,7 @@
 // The columns of rows, each as the rows that have it.
 ghost use Rattle.std.specs.Prelude.{◌≡◌, ◌≤◌, All, length, IfOk, OnOk};
-ghost use Rattle.sparse_rows.specs.Rows.{IsRising, lists_of};
+ghost use Rattle.sparse_rows.specs.Rows.{lists_of};
+ghost use Rattle.sparse_rows.specs.Building.{IsRising};
 ghost use Rattle.sparse_rows.specs.Rows.{columns_in, GainsRow};
 
 use crate::builder::empty_rows;

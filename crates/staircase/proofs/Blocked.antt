@@ -4,7 +4,8 @@ use Rattle.std.specs.List.{list_any}
 use Rattle.std.proofs.lemmas.Bool.{eqb-true}
 use Rattle.std.proofs.lemmas.List.Sums.{sum_by-cons, count_by-le-length}
 use Rattle.sparse_rows.specs.Matrix.{Matrix, is_in, has_entry, with_entry}
-use Rattle.staircase.specs.LeftSide.{IsFilled, without}
+use Rattle.staircase.specs.LeftSide.{without}
+use Rattle.staircase.specs.Left.{IsFilled}
 use Rattle.staircase.specs.Choices.{blocked_count}
 use Rattle.staircase.proofs.Counted.{sum_by-without}
 use Rattle.staircase.proofs.Filled.{lacks_bound, has_entry-with, row_of-with_other}

@@ -3,8 +3,8 @@ use Rattle.std.proofs.Common.{◌≡◌, ℕ, ◌+◌, ◌-◌, ◌<◌, ◌≤�
 use Rattle.std.proofs.lemmas.List.Sums.{count_by-le-length}
 use Rattle.park_miller.specs.LimitedDraws.{LimitedDraws}
 use Rattle.sparse_rows.specs.Matrix.{Matrix, has_entry, with_entry}
-use Rattle.staircase.specs.Pick.{HasDrawn}
-use Rattle.staircase.specs.LeftSide.{Filling, IsFilled, in_order, turn, column}
+use Rattle.staircase.specs.LeftSide.{Filling, in_order, turn, column}
+use Rattle.staircase.specs.Left.{HasDrawn, IsFilled}
 use Rattle.staircase.specs.Choices.{RowList, filling, blocked_count}
 use Rattle.staircase.proofs.FirstDraw.{HasDrawn-none, HasDrawn-trans}
 use Rattle.staircase.proofs.Filled.{filled_below, filled_with, row_inside}

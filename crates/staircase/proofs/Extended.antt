@@ -5,8 +5,8 @@ use Rattle.std.proofs.lemmas.List.Elements.{All-from_get_or}
 use Rattle.park_miller.specs.LimitedDraws.{LimitedDraws}
 use Rattle.sparse_rows.specs.Matrix.{Matrix, row_of}
 use Rattle.sparse_rows.proofs.Shape.{last_or_before}
-use Rattle.staircase.specs.Pick.{HasDrawn}
-use Rattle.staircase.specs.LeftSide.{DrawnMatrix, IsFilled, IsLeftSide, in_order, first_extra, second_extra, extras, drawn_matrix}
+use Rattle.staircase.specs.LeftSide.{DrawnMatrix, in_order, first_extra, second_extra, extras, drawn_matrix}
+use Rattle.staircase.specs.Left.{HasDrawn, IsFilled, IsLeftSide}
 use Rattle.staircase.proofs.FirstDraw.{HasDrawn-none, HasDrawn-trans}
 use Rattle.staircase.proofs.InOrder.{in_order-more}
 

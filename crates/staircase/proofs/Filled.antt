@@ -6,9 +6,9 @@ use Rattle.std.proofs.lemmas.List.{get_or-set_same, get_or-set_other, get_or_pas
 use Rattle.std.proofs.lemmas.List.Elements.{All-nil, All-get_or, All-set, All-weaker, All-replicate}
 use Rattle.std.proofs.lemmas.List.Folds.{list_any-append, list_any_none}
 use Rattle.sparse_rows.specs.Matrix.{Matrix, row_of, is_in, has_entry, with_column, with_entry}
-use Rattle.sparse_rows.specs.Rows.{IsRising}
+use Rattle.sparse_rows.specs.Building.{IsRising}
 use Rattle.sparse_rows.proofs.Rising.{with_column_rises}
-use Rattle.staircase.specs.LeftSide.{IsFilled}
+use Rattle.staircase.specs.Left.{IsFilled}
 
 -- rows without a column
 pub filled_none : (k n : ℕ) → k ≤ n → IsFilled k n 0 (record { k = k; n = n; rows = replicate (n - k) [] })

@@ -4,7 +4,8 @@ use Rattle.std.specs.List.{find, range_with_len}
 use Rattle.std.specs.Option.{option_map}
 use Rattle.park_miller.specs.Generator.{next, after, drawn}
 use Rattle.park_miller.specs.LimitedDraws.{LimitedDraws}
-use Rattle.staircase.specs.Pick.{after_draws, HasDrawn, Picked, pick}
+use Rattle.staircase.specs.Pick.{after_draws, Picked, pick}
+use Rattle.staircase.specs.Left.{HasDrawn}
 
 -- a step more at the start is a step more at the end
 after-next : (i x : ℕ) → after i (next x) ≡ next (after i x)

@@ -7,10 +7,12 @@ use Rattle.std.proofs.lemmas.List.Elements.{All-nil, All-cons, All-append, All-w
 use Rattle.std.proofs.lemmas.List.FromFn.{length-map-range_with_len, map-range_with_len_more, get_or-map-range_with_len}
 use Rattle.park_miller.specs.LimitedDraws.{LimitedDraws}
 use Rattle.sparse_rows.specs.Matrix.{Matrix, row_of, IsRow, HasShape, with_column, with_entry}
-use Rattle.sparse_rows.specs.Rows.{IsRising}
+use Rattle.sparse_rows.specs.Building.{IsRising}
 use Rattle.sparse_rows.proofs.Rising.{with_column_between, rising_between}
-use Rattle.staircase.specs.LeftSide.{IsLeftSide, left_side, drawn_matrix}
-use Rattle.staircase.specs.Staircase.{stair, stair_row, with_stair, with_stairs, staircase_matrix}
+use Rattle.staircase.specs.LeftSide.{left_side, drawn_matrix}
+use Rattle.staircase.specs.Left.{IsLeftSide}
+use Rattle.staircase.specs.Staircase.{stair, stair_row, with_stairs, staircase_matrix}
+use Rattle.staircase.specs.Stairs.{with_stair}
 
 -- a column above all others of a row goes to its end
 with_last_column : (c : ℕ) (row : List ℕ) → All (λ x. x < c) row → with_column c row ≡ row ++ c ∷ []

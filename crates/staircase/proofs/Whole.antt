@@ -4,7 +4,8 @@ use Rattle.std.specs.List.{range_with_len}
 use Rattle.std.specs.Option.{option_map, option_and_then}
 use Rattle.park_miller.specs.LimitedDraws.{LimitedDraws}
 use Rattle.sparse_rows.specs.Matrix.{Matrix}
-use Rattle.staircase.specs.LeftSide.{DrawnMatrix, Filling, IsLeftSide, in_order, column, columns, extras, left_side, drawn_matrix}
+use Rattle.staircase.specs.LeftSide.{DrawnMatrix, Filling, in_order, column, columns, extras, left_side, drawn_matrix}
+use Rattle.staircase.specs.Left.{IsLeftSide}
 use Rattle.staircase.specs.Choices.{RowList, filling}
 use Rattle.staircase.proofs.Filled.{filled_none}
 

@@ -1,4 +1,4 @@
--- How the rows that are left to choose from are kept.
+-- Inside: how the rows that are left to choose from are kept.
 use Rattle.std.specs.Prelude.{◌≡◌, ℕ, ◌<◌, ◌≤◌, ◌==◌, List, length, drop, count_by, slice_index}
 use Rattle.std.specs.Prelude.{All}
 use Rattle.park_miller.specs.declared.generator.TheConstants.{MAX_BOUND}

@@ -1,13 +1,12 @@
 -- The left side of the matrix: the columns of the source symbols, row by row.
-use Rattle.std.specs.Prelude.{◌≡◌, ℕ, ◌+◌, ◌-◌, ◌*◌, ◌%◌, ◌<◌, ◌==◌, ◌&&◌, nat_lt, nat_le, min}
+use Rattle.std.specs.Prelude.{ℕ, ◌-◌, ◌*◌, ◌%◌, ◌==◌, ◌&&◌, nat_lt, nat_le, min}
 use Rattle.std.specs.Prelude.{Bool, true, not, if◌then◌else◌, Option, Some, List, [], length, map}
-use Rattle.std.specs.Prelude.{drop, count_by, replicate, slice_index, slice_set, All}
+use Rattle.std.specs.Prelude.{drop, count_by, replicate, slice_index, slice_set}
 use Rattle.std.specs.List.{list_any, range_with_len}
 use Rattle.std.specs.Option.{option_map, option_and_then}
 use Rattle.std.proofs.Common.{zero, suc}
 use Rattle.park_miller.specs.LimitedDraws.{LimitedDraws}
 use Rattle.sparse_rows.specs.Matrix.{Matrix, row_of, has_entry, with_entry}
-use Rattle.sparse_rows.specs.Rows.{IsRising}
 use Rattle.staircase.specs.Pick.{Picked, pick}
 
 -- the steps 0 to count - 1, one after the other; none where one of them is none
@@ -104,16 +103,3 @@ extras r d = option_and_then (second_extra r) (first_extra r d)
 unfoldable pub left_side : ℕ → ℕ → ℕ → LimitedDraws → Option DrawnMatrix
 left_side k n n1 g = option_and_then (in_order (n - k) extras)
     (option_map (λ f. drawn_matrix f.matrix f.draws) (columns k n n1 g))
-
--- of n encoding symbols the first k are the source symbols, and the columns of each of the n - k
--- rows rise and lie below a bound
-pub record IsFilled (k n bound : ℕ) (m : Matrix) : Type 0 where
-  pub source : m.k ≡ k
-  pub encoding : m.n ≡ n
-  pub count : k + length m.rows ≡ n
-  pub rows : All (IsRising bound) m.rows
-
--- each of the n - k rows has source symbols, at least one, and nothing else
-pub record IsLeftSide (k n : ℕ) (m : Matrix) : Type 0 where
-  pub filled : IsFilled k n k m
-  pub some : All (λ row. 0 < length row) m.rows

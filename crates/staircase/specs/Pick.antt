@@ -1,5 +1,5 @@
 -- The first good draw of a generator whose draws are counted up to a limit.
-use Rattle.std.specs.Prelude.{◌≡◌, ℕ, ◌+◌, ◌-◌, Bool, Option}
+use Rattle.std.specs.Prelude.{ℕ, ◌+◌, ◌-◌, Bool, Option}
 use Rattle.std.specs.List.{find, range_with_len}
 use Rattle.std.specs.Option.{option_map}
 use Rattle.park_miller.specs.Generator.{after, drawn}
@@ -8,11 +8,6 @@ use Rattle.park_miller.specs.LimitedDraws.{LimitedDraws}
 -- the generator after so many more draws
 abbrev pub after_draws : ℕ → LimitedDraws → LimitedDraws
 after_draws count g = record g { state = after count g.state; used = g.used + count }
-
--- the generator has made some more draws, perhaps none
-pub record HasDrawn (old new : LimitedDraws) : Type 0 where
-  pub count : ℕ
-  pub draws : new ≡ after_draws count old
 
 -- the value of a draw, and the generator after it
 pub record Picked : Type 0 where

@@ -1,5 +1,5 @@
 -- The staircase: the right side whose rows each end with two neighbouring repair symbols.
-use Rattle.std.specs.Prelude.{ℕ, ◌+◌, Option, List, [], ◌∷◌, ◌++◌, length, map, slice_set}
+use Rattle.std.specs.Prelude.{ℕ, ◌+◌, Option, List, [], ◌∷◌, ◌++◌, length, map}
 use Rattle.std.specs.List.{range_with_len}
 use Rattle.std.specs.Option.{option_map}
 use Rattle.std.proofs.Common.{zero, suc}
@@ -14,9 +14,6 @@ stair k (suc i) = (k + i) ∷ (k + suc i) ∷ []
 -- row i with its repair symbols behind it
 abbrev pub stair_row : Matrix → ℕ → List ℕ
 stair_row m i = row_of m i ++ stair m.k i
-
-abbrev pub with_stair : Matrix → ℕ → Matrix
-with_stair m i = record m { rows = slice_set m.rows i (stair_row m i) }
 
 -- a left side with the staircase behind it
 abbrev pub with_stairs : Matrix → Matrix

@@ -1,8 +1,8 @@
 // The extra columns of rows with fewer than two source symbols.
 ghost use Rattle.std.specs.Prelude.{◌≡◌, ◌<◌, ◌≤◌, ◌-◌, ℕ, length, Some, None, Err, OnOk};
 ghost use Rattle.sparse_rows.specs.Matrix.{row_of};
-ghost use Rattle.staircase.specs.Pick.{HasDrawn};
-ghost use Rattle.staircase.specs.LeftSide.{IsFilled, IsLeftSide, first_extra, second_extra, extras};
+ghost use Rattle.staircase.specs.LeftSide.{first_extra, second_extra, extras};
+ghost use Rattle.staircase.specs.Left.{HasDrawn, IsFilled, IsLeftSide};
 ghost use Rattle.staircase.specs.LeftSide.{in_order, drawn_matrix};
 
 use crate::picks::pick_column;

@@ -2,8 +2,8 @@
 ghost use Rattle.std.specs.Prelude.{◌≡◌, ◌<◌, ◌≤◌, ◌+◌, ◌-◌, false, Some, None, Err, IfOk, OnOk};
 ghost use Rattle.std.specs.Prelude.{OnErr};
 ghost use Rattle.sparse_rows.specs.Matrix.{has_entry, with_entry};
-ghost use Rattle.staircase.specs.Pick.{HasDrawn};
-ghost use Rattle.staircase.specs.LeftSide.{IsFilled, IsLeftSide, turn, column, left_side, in_order};
+ghost use Rattle.staircase.specs.LeftSide.{turn, column, left_side, in_order};
+ghost use Rattle.staircase.specs.Left.{HasDrawn, IsFilled, IsLeftSide};
 ghost use Rattle.staircase.specs.LeftSide.{drawn_matrix};
 ghost use Rattle.staircase.specs.Choices.{filling, blocked_count};
 

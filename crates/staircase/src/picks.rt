@@ -2,7 +2,8 @@
 ghost use Rattle.std.specs.Prelude.{◌≡◌, ◌<◌, ◌≤◌, ◌-◌, false, length, slice_index, Some, None};
 ghost use Rattle.std.specs.Prelude.{IfOk, OnErr};
 ghost use Rattle.sparse_rows.specs.Matrix.{has_entry};
-ghost use Rattle.staircase.specs.Pick.{HasDrawn, pick};
+ghost use Rattle.staircase.specs.Pick.{pick};
+ghost use Rattle.staircase.specs.Left.{HasDrawn};
 ghost use Rattle.staircase.specs.LeftSide.{lacks};
 
 use crate::choices::Choices;

@@ -1,9 +1,10 @@
 // The right side of the staircase, and the code.
 ghost use Rattle.std.specs.Prelude.{◌≡◌, ◌<◌, ◌≤◌, ◌+◌, ◌-◌, length, Some, None, Err, All, IfOk};
 ghost use Rattle.std.specs.Prelude.{OnOk};
-ghost use Rattle.staircase.specs.LeftSide.{IsLeftSide};
+ghost use Rattle.staircase.specs.Left.{IsLeftSide};
 ghost use Rattle.sparse_rows.specs.Matrix.{HasShape, row_of};
-ghost use Rattle.staircase.specs.Staircase.{with_stair, with_stairs, staircase_matrix};
+ghost use Rattle.staircase.specs.Staircase.{with_stairs, staircase_matrix};
+ghost use Rattle.staircase.specs.Stairs.{with_stair};
 
 use crate::left_side::left;
 use crate::refusal::BuildRefusal;

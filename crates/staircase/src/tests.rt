@@ -88,3 +88,59 @@ fn builds_a_large_code_with_about_a_draw_an_entry(rt: HostRuntime) -> Result<(),
     assert!(rt; built.code.entries() >= 79_999);
     Ok(())
 }
+
+// The codes below were computed apart from this program, by a second reading of the definitions.
+
+// The code has these rows and no others.
+fn check_rows(rt: &impl Abort, code: &Code, rows: &[&[u32]]) {
+    assert!(rt; rows.len() < 100);
+    assert_eq!(rt; (code.n() - code.k()) as usize, rows.len());
+    for (r, columns) in rows.iter().enumerate() {
+        check_row(rt, code, r as u32, columns);
+    }
+}
+
+#[test]
+fn builds_the_staircase_of_4_and_5_by_seed_99(rt: HostRuntime) -> Result<(), Fail> {
+    let built = staircase(rt.alloc(), 4, 9, 4, 99, 20)?;
+    assert_eq!(rt; built.draws, 20);
+    let rows: [&[u32]; 5] = [
+        &[0, 1, 2, 3, 4],
+        &[0, 1, 2, 4, 5],
+        &[0, 2, 3, 5, 6],
+        &[0, 1, 2, 3, 6, 7],
+        &[1, 3, 7, 8],
+    ];
+    check_rows(&rt, &built.code, &rows);
+    Ok(())
+}
+
+#[test]
+fn builds_the_staircase_of_6_and_11_by_seed_2147483646(rt: HostRuntime) -> Result<(), Fail> {
+    let built = staircase(rt.alloc(), 6, 17, 10, 2_147_483_646, 103)?;
+    assert_eq!(rt; built.draws, 103);
+    let rows: [&[u32]; 11] = [
+        &[0, 1, 2, 3, 4, 5, 6],
+        &[0, 1, 2, 3, 4, 5, 6, 7],
+        &[0, 2, 3, 5, 7, 8],
+        &[0, 1, 2, 3, 4, 5, 8, 9],
+        &[0, 1, 2, 3, 4, 5, 9, 10],
+        &[0, 1, 2, 3, 4, 5, 10, 11],
+        &[0, 1, 2, 4, 5, 11, 12],
+        &[0, 1, 2, 3, 4, 5, 12, 13],
+        &[0, 1, 3, 4, 5, 13, 14],
+        &[1, 2, 3, 4, 5, 14, 15],
+        &[0, 1, 2, 3, 4, 15, 16],
+    ];
+    check_rows(&rt, &built.code, &rows);
+    Ok(())
+}
+
+#[test]
+fn builds_the_staircase_of_5_and_2_by_seed_7(rt: HostRuntime) -> Result<(), Fail> {
+    let built = staircase(rt.alloc(), 5, 7, 3, 7, 16)?;
+    assert_eq!(rt; built.draws, 16);
+    let rows: [&[u32]; 2] = [&[0, 1, 2, 3, 4, 5], &[0, 1, 2, 3, 4, 5, 6]];
+    check_rows(&rt, &built.code, &rows);
+    Ok(())
+}

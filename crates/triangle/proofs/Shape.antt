@@ -4,7 +4,7 @@ use Rattle.std.proofs.lemmas.Bool.{cases_order, lt-ltb, eqb-true}
 use Rattle.std.proofs.lemmas.List.{get_or-set_same, get_or-set_other}
 use Rattle.std.proofs.lemmas.List.Elements.{All-weaker, Contains-append_left, Contains-append_right}
 use Rattle.sparse_rows.specs.Matrix.{Matrix, IsRow, IsCode, row_of, with_column, with_entry}
-use Rattle.sparse_rows.specs.Rows.{IsRising}
+use Rattle.sparse_rows.specs.Building.{IsRising}
 use Rattle.sparse_rows.proofs.Rising.{with_column_rises}
 
 -- what passes a test is kept

@@ -57,3 +57,73 @@ fn draws_nothing_where_all_symbols_are_source(rt: HostRuntime) -> Result<(), Fai
     assert_eq!(rt; built.code.entries(), 0);
     Ok(())
 }
+
+// The codes below were computed apart from this program, by a second reading of the definitions.
+
+// The code has these rows and no others.
+fn check_rows(rt: &impl Abort, code: &Code, rows: &[&[u32]]) {
+    assert!(rt; rows.len() < 100);
+    assert_eq!(rt; (code.n() - code.k()) as usize, rows.len());
+    for (r, columns) in rows.iter().enumerate() {
+        check_row(rt, code, r as u32, columns);
+    }
+}
+
+#[test]
+fn builds_the_triangle_of_4_and_5_by_seed_99(rt: HostRuntime) -> Result<(), Fail> {
+    let built = triangle(rt.alloc(), 4, 9, 4, 99, 23)?;
+    assert_eq!(rt; built.draws, 23);
+    let rows: [&[u32]; 5] = [
+        &[0, 1, 2, 3, 4],
+        &[0, 1, 2, 4, 5],
+        &[0, 2, 3, 4, 5, 6],
+        &[0, 1, 2, 3, 5, 6, 7],
+        &[1, 3, 4, 7, 8],
+    ];
+    check_rows(&rt, &built.code, &rows);
+    Ok(())
+}
+
+#[test]
+fn builds_the_triangle_of_6_and_14_by_seed_12345(rt: HostRuntime) -> Result<(), Fail> {
+    let built = triangle(rt.alloc(), 6, 20, 5, 12_345, 54)?;
+    assert_eq!(rt; built.draws, 54);
+    let rows: [&[u32]; 14] = [
+        &[0, 1, 2, 6],
+        &[1, 2, 3, 6, 7],
+        &[0, 3, 6, 7, 8],
+        &[0, 3, 7, 8, 9],
+        &[0, 2, 6, 8, 9, 10],
+        &[3, 5, 6, 10, 11],
+        &[1, 5, 7, 9, 11, 12],
+        &[3, 5, 7, 12, 13],
+        &[4, 5, 7, 13, 14],
+        &[2, 4, 8, 13, 14, 15],
+        &[1, 4, 8, 10, 15, 16],
+        &[0, 4, 8, 12, 16, 17],
+        &[2, 5, 8, 10, 17, 18],
+        &[1, 4, 8, 9, 18, 19],
+    ];
+    check_rows(&rt, &built.code, &rows);
+    Ok(())
+}
+
+#[test]
+fn builds_the_triangle_of_2_and_10_by_seed_2147483646(rt: HostRuntime) -> Result<(), Fail> {
+    let built = triangle(rt.alloc(), 2, 12, 10, 2_147_483_646, 37)?;
+    assert_eq!(rt; built.draws, 37);
+    let rows: [&[u32]; 10] = [
+        &[0, 1, 2],
+        &[0, 1, 2, 3],
+        &[0, 1, 2, 3, 4],
+        &[0, 1, 3, 4, 5],
+        &[0, 1, 3, 5, 6],
+        &[0, 1, 2, 4, 6, 7],
+        &[0, 1, 2, 7, 8],
+        &[0, 1, 3, 8, 9],
+        &[0, 1, 3, 6, 7, 9, 10],
+        &[0, 1, 3, 7, 10, 11],
+    ];
+    check_rows(&rt, &built.code, &rows);
+    Ok(())
+}

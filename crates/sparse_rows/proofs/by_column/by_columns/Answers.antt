@@ -2,7 +2,8 @@ use Rattle.std.proofs.Common.{◌≡◌, ◌<◌, [], length, take, sym, ap, ◌
 use Rattle.std.proofs.Math.Seq.{take-length}
 use Rattle.std.proofs.lemmas.List.{with_items_is}
 use Rattle.std.specs.Vec.{with_items}
-use Rattle.sparse_rows.specs.Rows.{IsRising, lists_of}
+use Rattle.sparse_rows.specs.Rows.{lists_of}
+use Rattle.sparse_rows.specs.Building.{IsRising}
 use Rattle.sparse_rows.specs.Rows.{columns_in}
 use Rattle.sparse_rows.proofs.Transposed.{columns_none, columns_step, length_columns, length_lists, lists_at, lists_none}
 use Rattle.sparse_rows.proofs.by_column.by_columns.Goals as goal

@@ -1,8 +1,8 @@
 use Rattle.std.proofs.Common.{◌≡◌, ◌+◌, ◌<◌, ℕ, List, [], length, All, sym, ap, ◌∙◌, subst, arith}
 use Rattle.std.proofs.lemmas.List.Elements.{All-get_or}
 use Rattle.sparse_rows.specs.Matrix.{HasShape, row_of}
-use Rattle.sparse_rows.specs.Rows.{IsRising}
-use Rattle.staircase.specs.Staircase.{with_stair}
+use Rattle.sparse_rows.specs.Building.{IsRising}
+use Rattle.staircase.specs.Stairs.{with_stair}
 use Rattle.staircase.proofs.RightSide.{row_is, row_inside, stairs_more, stairs_all, stairs_have_shape}
 use Rattle.staircase.proofs.stairs.add_stairs.Goals as goal
 

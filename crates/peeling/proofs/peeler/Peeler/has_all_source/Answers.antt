@@ -1,5 +1,6 @@
 use Rattle.std.proofs.Common.{◌≡◌, ◌↔◌, subst, sym, ◌∙◌, eqb-true, eq-eqb}
-use Rattle.peeling.specs.Decoder.{Decoder, HasAllSource}
+use Rattle.peeling.specs.Decoder.{Decoder}
+use Rattle.peeling.specs.Lookups.{HasAllSource}
 use Rattle.peeling.proofs.Stored.{stored_full}
 use Rattle.peeling.proofs.peeler.Peeler.has_all_source.Goals as goal
 

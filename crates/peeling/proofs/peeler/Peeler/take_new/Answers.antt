@@ -1,5 +1,5 @@
 use Rattle.std.proofs.Common.{◌+◌, Bool, true, List, set, refl, ap, ◌∙◌, arith}
-use Rattle.peeling.specs.Decoder.{set_count}
+use Rattle.peeling.specs.Lookups.{set_count}
 use Rattle.peeling.proofs.Laid.{bytes_small}
 use Rattle.peeling.proofs.Stored.{ready_unknown, ready_laid, ready_counted, ready_rests, new_stored, new_receives, new_steps}
 use Rattle.peeling.proofs.peeler.Peeler.take_new.Goals as goal

@@ -1,5 +1,6 @@
 use Rattle.std.proofs.Common.{◌≡◌, Bool, true, List, set, sym, ap, ◌∙◌}
-use Rattle.peeling.specs.Decoder.{kept, set_count}
+use Rattle.peeling.specs.Decoder.{kept}
+use Rattle.peeling.specs.Lookups.{set_count}
 use Rattle.peeling.proofs.Laid.{bytes_small}
 use Rattle.peeling.proofs.Stored.{stored_room, stored_symbol, repeat_stored, repeat_receives}
 use Rattle.peeling.proofs.peeler.Peeler.take_repeat.Goals as goal

@@ -1,5 +1,5 @@
 use Rattle.std.proofs.Common.{List, ℕ, sym, subst}
-use Rattle.sparse_rows.specs.Rows.{IsRising}
+use Rattle.sparse_rows.specs.Building.{IsRising}
 use Rattle.sparse_rows.proofs.Built.{value_rises}
 use Rattle.sparse_rows.proofs.builder.RowsBuilder.row.Goals as goal
 

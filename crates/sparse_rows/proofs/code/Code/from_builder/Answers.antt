@@ -1,6 +1,7 @@
 use Rattle.std.proofs.Common.{ℕ, List, All, sym, subst}
 use Rattle.smallvec.specs.SmallVec.{SmallVec}
-use Rattle.sparse_rows.specs.Rows.{IsRising, lists_of}
+use Rattle.sparse_rows.specs.Rows.{lists_of}
+use Rattle.sparse_rows.specs.Building.{IsRising}
 use Rattle.sparse_rows.proofs.code.Code.from_builder.Goals as goal
 
 pub by_columns-requires-clause-rows : goal.by_columns-requires-clause-rows
