@@ -13,13 +13,15 @@ use Rattle.sparse_rows.specs.Codeword.{IsAssignment, symbol_at}
 use Rattle.sparse_rows.specs.Closure.{Set}
 use Rattle.sparse_rows.specs.Matrix.{is_in}
 use Rattle.sparse_rows.specs.NullWord.{IsNullWord, last_of}
-use Rattle.sparse_rows.proofs.Algebra.{XorLaws, total}
+use Rattle.sparse_rows.proofs.Algebra.{XorLaws}
+use Rattle.sparse_rows.specs.Totals.{total}
 use Rattle.fec_base.proofs.SymbolBytes.{byte, same_bytes}
 use Rattle.sparse_rows.proofs.Planes.{byte_laws, byte_sum, zero_is_symbol, symbol_at_is, length_sum}
 use Rattle.sparse_rows.proofs.Parity.{bit_laws, even_from, even_to}
 use Rattle.sparse_rows.proofs.Null.{all_from_in, null_column}
 use Rattle.null_witness.proofs.Increasing.{last_in, last_most}
-use Rattle.gauss.specs.Equations.{Equation, System, IsSystem, IsSolution, matrix_of, no_equation}
+use Rattle.gauss.specs.Equations.{Equation, System, IsSystem, IsSolution, matrix_of}
+use Rattle.gauss.specs.Filling.{no_equation}
 use Rattle.gauss.specs.Answer.{IsAnswer}
 use Rattle.gauss.proofs.Rows.{mask_of, sum_of}
 use Rattle.gauss.specs.Elimination.{product, Solves, mask_in, taken_in, sum_in, IsStage, behind}
@@ -52,12 +54,12 @@ small_below u r bits row_of sum hs (suc n) y hy c = small_below u r bits row_of 
     by_case false b v lt = lt
 
 module _ (s : System) (ok : IsSystem s) where
-  row_product : {G : Type 0} (o : G) (add : G → G → G) (laws : XorLaws G o add) (j : ℕ) → j < length s.equations → (x : ℕ → G)
+  pub row_product : {G : Type 0} (o : G) (add : G → G → G) (laws : XorLaws G o add) (j : ℕ) → j < length s.equations → (x : ℕ → G)
       → total o add x (get_or s.equations j (no_equation 0)).unknowns ≡ product o add s.unknowns (mask_of s.equations j) x
   row_product o add laws j lt x = list_product o add laws s.unknowns (get_or s.equations j (no_equation 0)).unknowns (ok j (no_equation 0) lt).rising (ok j (no_equation 0) lt).below x
 
   -- the sum of an equation, whatever stands past the end
-  sum_same : (j : ℕ) → j < length s.equations → sum_of s.len s.equations j ≡ (get_or s.equations j (no_equation 0)).sum
+  pub sum_same : (j : ℕ) → j < length s.equations → sum_of s.len s.equations j ≡ (get_or s.equations j (no_equation 0)).sum
   sum_same j lt = ap (λ (e : Equation). e.sum) (get_or_default s.equations j (no_equation s.len) (no_equation 0) lt)
 
   pub row_sum_is : IsAssignment s.len (sum_of s.len s.equations)
@@ -76,7 +78,7 @@ module _ (s : System) (ok : IsSystem s) where
         (λ t. byte_sum s.len x (λ c. (hx c).long) t (get_or s.equations j (no_equation 0)).unknowns ∙ row_product 0 bit_xor byte_laws j lt (λ c. byte t (x c)) ∙ h t j lt ∙ ap (byte t) (sum_same j lt)));
   }
 
-  to_even : (set : List ℕ) → IsNullWord (matrix_of s) (λ c. false) set → Solves false bool_xor s.unknowns (length s.equations) (mask_of s.equations) (λ j. false) (is_in set)
+  pub to_even : (set : List ℕ) → IsNullWord (matrix_of s) (λ c. false) set → Solves false bool_xor s.unknowns (length s.equations) (mask_of s.equations) (λ j. false) (is_in set)
   to_even set null j lt = sym (row_product false bool_xor bit_laws j lt (is_in set))
       ∙ even_to (is_in set) (get_or s.equations j (no_equation 0)).unknowns (rw (sym (get_or-map (λ (e : Equation). e.unknowns) s.equations j (no_equation 0) [] lt)) (null.even j [] (rw length-map lt)))
 
@@ -120,7 +122,7 @@ module _ (s : System) (ok : IsSystem s) where
       rest_all t j lt e = ⊎_elim (λ low. rest t j low lt e) (λ le. last_past t j le) (cases_lt t s.len)
 
       -- values that come from the pivot rows are a solution
-      values_are_solution : (x : ℕ → List ℕ) → IsAssignment s.len x
+      pub values_are_solution : (x : ℕ → List ℕ) → IsAssignment s.len x
           → ((t p : ℕ) → t < s.len → p < s.unknowns → row_of p < length s.equations → byte t (x p) ≡ value 0 bit_xor s.unknowns now row_of (last_plane t) p (λ c. byte t (x c))) → IsSolution s x
       values_are_solution x hx h = from_last x hx (λ t. values_solve 0 bit_xor byte_laws s.unknowns now row_of (last_plane t) (length s.equations) first lead st (λ c. byte t (x c)) (rest_all t)
           (λ p lt pivot. ⊎_elim (λ low. h t p low lt pivot) (λ le. value_past x hx t p le) (cases_lt t s.len)))

@@ -15,7 +15,8 @@ use Rattle.sparse_rows.proofs.Null.{in_all, members_below, members_rise, members
 use Rattle.sparse_rows.proofs.Rising.{rising_between}
 use Rattle.sparse_rows.proofs.Sets.{or_none, same_test}
 use Rattle.sparse_rows.proofs.Increasing.{rising_same}
-use Rattle.gauss.specs.Equations.{Equation, System, equation_at, no_equation, with_equation, with_sum, with_unknown}
+use Rattle.gauss.specs.Equations.{Equation, System}
+use Rattle.gauss.specs.Filling.{equation_at, no_equation, with_equation, with_sum, with_unknown}
 use Rattle.gauss.specs.Packed.{bits_of, packed_equation, packed_system, width_of}
 
 -- ---- a system whose equations change at one place

@@ -14,10 +14,10 @@ use Rattle.gauss.proofs.Products.{mask_after, sum_after, product_xor, total_at}
 pub which : (c i : ℕ) → (c < i) ⊎ ((c ≡ i) ⊎ (i < c))
 which c i = ⊎_elim inl (λ le. ⊎_elim (λ e. inr (inl e)) (λ ne. inr (inr (omega (arith, ne)))) (cases_eq c i)) (cases_lt c i)
 
-xor_none : (b : Bool) → bool_xor b false ≡ b
+pub xor_none : (b : Bool) → bool_xor b false ≡ b
 xor_none b = bit_laws.comm b false ∙ bit_laws.left b
 
-and_no : (b : Bool) → (b && false) ≡ false
+pub and_no : (b : Bool) → (b && false) ≡ false
 and_no true = refl
 and_no false = refl
 

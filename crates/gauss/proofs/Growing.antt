@@ -4,7 +4,8 @@ use Rattle.std.specs.List.{range_with_len}
 use Rattle.std.proofs.lemmas.List.{map-id}
 use Rattle.std.proofs.lemmas.List.FromFn.{map-range_with_len_more}
 use Rattle.sparse_rows.specs.Closure.{Set}
-use Rattle.sparse_rows.proofs.Algebra.{XorLaws, total, right}
+use Rattle.sparse_rows.proofs.Algebra.{XorLaws, right}
+use Rattle.sparse_rows.specs.Totals.{total}
 use Rattle.gauss.specs.Elimination.{product}
 
 range_more : (n : ℕ) → range_with_len 0 (n + 1) ≡ range_with_len 0 n ++ n ∷ []

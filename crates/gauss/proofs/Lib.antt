@@ -16,3 +16,9 @@ pub mod Tabled
 pub mod Groups
 pub mod Passes
 pub mod Tiles
+pub mod FormLaws
+pub mod Past
+pub mod MaskBits
+pub mod FormParts
+pub mod NullSets
+pub mod Form

@@ -7,7 +7,8 @@ use Rattle.std.proofs.lemmas.List.{map-id}
 use Rattle.std.proofs.lemmas.List.FromFn.{filter_of_map_range_with_len_more}
 use Rattle.sparse_rows.specs.Closure.{Set, members}
 use Rattle.sparse_rows.specs.Matrix.{is_in}
-use Rattle.sparse_rows.proofs.Algebra.{XorLaws, total, total_same}
+use Rattle.sparse_rows.proofs.Algebra.{XorLaws, total_same}
+use Rattle.sparse_rows.specs.Totals.{total}
 use Rattle.sparse_rows.proofs.Null.{in_all, members_below, members_rise, members_same, range_below}
 use Rattle.sparse_rows.proofs.Increasing.{rising_same}
 use Rattle.gauss.specs.Elimination.{product}

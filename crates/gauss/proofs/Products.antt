@@ -5,7 +5,8 @@ use Rattle.std.proofs.Math.Bool.{xor as bool_xor}
 use Rattle.std.proofs.lemmas.Bool.{cases_lt, false_from_ne_true, ne_eqb, not-true}
 use Rattle.sparse_rows.specs.Closure.{Set, members}
 use Rattle.sparse_rows.specs.Matrix.{is_in}
-use Rattle.sparse_rows.proofs.Algebra.{XorLaws, total, total_same, total_add, total_split, total_agree, total_zero, right, cancel}
+use Rattle.sparse_rows.proofs.Algebra.{XorLaws, total_same, total_add, total_split, total_agree, total_zero, right, cancel}
+use Rattle.sparse_rows.specs.Totals.{total}
 use Rattle.sparse_rows.proofs.Sets.{same_test}
 use Rattle.sparse_rows.proofs.Increasing.{rising_same}
 use Rattle.gauss.specs.Elimination.{product, Solves}

@@ -12,18 +12,19 @@ use Rattle.sparse_rows.specs.Codeword.{symbol_at}
 use Rattle.sparse_rows.specs.Closure.{Set, flagged, members}
 use Rattle.sparse_rows.specs.Matrix.{is_in}
 use Rattle.fec_base.proofs.SymbolBytes.{byte, byte_zero}
-use Rattle.sparse_rows.proofs.Planes.{byte_laws}
+use Rattle.sparse_rows.proofs.Planes.{byte_laws, symbol_at_is}
 use Rattle.sparse_rows.proofs.Null.{members_below, members_in, members_rise, members_same, in_all, range_below}
 use Rattle.sparse_rows.proofs.Algebra.{total_same}
-use Rattle.gauss.specs.Equations.{Equation, System, IsEquation, IsSystem, no_equation}
+use Rattle.gauss.specs.Equations.{Equation, System, IsEquation, IsSolution, IsSystem}
+use Rattle.gauss.specs.Filling.{no_equation}
 use Rattle.gauss.specs.Answer.{IsAnswer}
 use Rattle.gauss.proofs.Rows.{mask_of, sum_of}
 use Rattle.gauss.specs.Packed.{IsPacked, bits_of, byte_in, packed_equation, packed_system, sum_byte, width_of}
 use Rattle.gauss.specs.Elimination.{AllPivots, AreValues, IsFirstFree, IsNullFlags, IsStage, IsStageIn, behind, lead_of, product, row_of, sum_in, taken_in}
-use Rattle.gauss.specs.declared.answer.Answer.{Answer}
 use Rattle.gauss.specs.declared.answer.Answer.TheVariants as answer
 use Rattle.gauss.proofs.Words.{part_length, row_room}
-use Rattle.gauss.proofs.Answered.{answer_clash, answer_free, answer_one}
+use Rattle.gauss.proofs.Answered.{answer_clash, answer_free, answer_one, values_are_solution}
+use Rattle.gauss.proofs.Back.{value}
 
 -- ---- symbols that lie one after the other
 
@@ -64,23 +65,23 @@ module _ (u len r : ℕ) (first words : List ℕ) (sums : List (List ℕ)) (pivo
   abbrev pub s : System
   s = packed_system u len r first sums
 
-  count : length s.equations ≡ r
+  pub count : length s.equations ≡ r
   count = length-map-range_with_len (packed_equation u first sums) 0 r
 
   equation_is : (j : ℕ) → j < r → (d : Equation) → get_or s.equations j d ≡ packed_equation u first sums j
   equation_is j lt d = get_or-map-range_with_len (packed_equation u first sums) 0 r j j d lt (zero-add j)
 
-  ok : IsSystem s
+  pub ok : IsSystem s
   ok = All-from_get_or (IsEquation u len) s.equations (no_equation 0) (λ j lt. let low : j < r = rw count at lt in rw (equation_is j low (no_equation 0)) (record {
     rising = members_rise u (bits_of (width_of u) first j);
     below = members_below u (bits_of (width_of u) first j);
     sum = packed.symbols j [] (rw packed.row_sums low);
   }))
 
-  as_first : (j c : ℕ) → j < length s.equations → c < u → mask_of s.equations j c ≡ bits_of (width_of u) first j c
+  pub as_first : (j c : ℕ) → j < length s.equations → c < u → mask_of s.equations j c ≡ bits_of (width_of u) first j c
   as_first j c lt lt2 = ap (λ (e : Equation). is_in e.unknowns c) (equation_is j (rw count at lt) (no_equation 0)) ∙ members_same u (bits_of (width_of u) first j) c lt2
 
-  stage : IsStage u (length s.equations) u (bits_of (width_of u) first) (bits_of (width_of u) words) (row_of r pivots) (lead_of u leads)
+  pub stage : IsStage u (length s.equations) u (bits_of (width_of u) first) (bits_of (width_of u) words) (row_of r pivots) (lead_of u leads)
   stage = subst (λ n. IsStage u n u (bits_of (width_of u) first) (bits_of (width_of u) words) (row_of r pivots) (lead_of u leads)) (sym count) st.stage
 
   plane_is : (t j : ℕ) → t < len → byte t (sum_of len s.equations j) ≡ sum_byte sums t j
@@ -103,30 +104,43 @@ module _ (u len r : ℕ) (first words : List ℕ) (sums : List (List ℕ)) (pivo
   read_clash j t lt le lt2 ne = answer_clash s ok (bits_of (width_of u) first) (bits_of (width_of u) words) (row_of r pivots) (lead_of u leads) stage as_first j t (rw count lt) (led_false j le) (λ e. ne (sym (rest_is t j lt2 (led_false j le)) ∙ e))
 
   module _ (zero_rest : (j t : ℕ) → j < r → u ≤ lead_of u leads j → t < len → bit_xor (sum_byte sums t j) (product 0 bit_xor u (bits_of (width_of u) words j) (pivot_bytes t)) ≡ 0) where
-    rest : (t j : ℕ) → t < len → j < length s.equations → ltb (lead_of u leads j) u ≡ false → sum_in 0 bit_xor u u (bits_of (width_of u) words) (lead_of u leads) (row_of r pivots) (λ k. byte t (sum_of len s.equations k)) j ≡ 0
+    pub rest : (t j : ℕ) → t < len → j < length s.equations → ltb (lead_of u leads j) u ≡ false → sum_in 0 bit_xor u u (bits_of (width_of u) words) (lead_of u leads) (row_of r pivots) (λ k. byte t (sum_of len s.equations k)) j ≡ 0
     rest t j lt lt2 e = rest_is t j lt e ∙ zero_rest j t (rw count at lt2) (⊎_elim (λ low. absurd (true≢false (sym (lt-ltb (lead_of u leads j) u low) ∙ e))) (λ le. le) (cases_lt (lead_of u leads j) u)) lt
 
     -- the values after back substitution
-    pub read_one : AllPivots r pivots → (values : List ℕ) → length values ≡ u * len → All (λ b. b < 256) values → AreValues u len (bits_of (width_of u) words) (row_of r pivots) sums values → IsAnswer s (answer.One (symbols_of len u values))
-    read_one all values long small done = answer_one s ok (bits_of (width_of u) first) (bits_of (width_of u) words) (row_of r pivots) (lead_of u leads) stage as_first rest
-        pivot (symbols_of len u values) (length-map-range_with_len (symbol_in len values) 0 u)
-        (All-from_get_or (IsSymbol len) (symbols_of len u values) (symbol_in len values 0) (λ j lt. let low : j < u = rw (length-map-range_with_len (symbol_in len values) 0 u) at lt in
-        rw (get_or-map-range_with_len (symbol_in len values) 0 u j j (symbol_in len values 0) low (zero-add j)) (symbol_is len u values long small j low)))
-        (λ t p lt low. value_byte t p lt low ∙ done p t low lt ∙ ap₂ bit_xor (sum_before t p lt low)
-        (product_both u (behind (bits_of (width_of u) words) (row_of r pivots) p) (behind (bits_of (width_of u) words) (row_of r pivots) p) (byte_in len values t) (λ c. byte t (symbol_at len (symbols_of len u values) c)) (λ c low2. (refl, sym (value_byte t c lt low2)))))
-      where
-        pivot : (p : ℕ) → p < u → row_of r pivots p < length s.equations
-        pivot p lt = rw count (all p (rw st.pivot_count lt))
+    module _ (values : List ℕ) (long : length values ≡ u * len) (small : All (λ b. b < 256) values) (done : AreValues u len (bits_of (width_of u) words) (row_of r pivots) sums values) where
+      pub each_symbol : All (IsSymbol len) (symbols_of len u values)
+      each_symbol = All-from_get_or (IsSymbol len) (symbols_of len u values) (symbol_in len values 0) (λ j lt. let low : j < u = rw (length-map-range_with_len (symbol_in len values) 0 u) at lt in
+          rw (get_or-map-range_with_len (symbol_in len values) 0 u j j (symbol_in len values 0) low (zero-add j)) (symbol_is len u values long small j low))
 
-        value_byte : (t p : ℕ) → t < len → p < u → byte t (symbol_at len (symbols_of len u values) p) ≡ byte_in len values t p
-        value_byte t p lt low = ap (byte t) (get_or-map-range_with_len (symbol_in len values) 0 u p p _ low (zero-add p)) ∙ symbol_byte len u values long t p lt
+      value_byte : (t p : ℕ) → t < len → p < u → byte t (symbol_at len (symbols_of len u values) p) ≡ byte_in len values t p
+      value_byte t p lt low = ap (byte t) (get_or-map-range_with_len (symbol_in len values) 0 u p p _ low (zero-add p)) ∙ symbol_byte len u values long t p lt
 
-        -- the sum of the pivot row of p: its first sum, and those that went into it
-        sum_before : (t p : ℕ) → t < len → p < u → bit_xor (pivot_bytes t p) (product 0 bit_xor u (λ c. ltb c p && bits_of (width_of u) words (row_of r pivots p) c) (pivot_bytes t))
-            ≡ sum_in 0 bit_xor u u (bits_of (width_of u) words) (lead_of u leads) (row_of r pivots) (λ k. byte t (sum_of len s.equations k)) (row_of r pivots p)
-        sum_before t p lt low = ap₂ bit_xor (sym (plane_is t (row_of r pivots p) lt))
-            (product_both u (λ c. ltb c p && bits_of (width_of u) words (row_of r pivots p) c) (taken_in u u (bits_of (width_of u) words) (lead_of u leads) (row_of r pivots p)) (pivot_bytes t) (λ c. byte t (sum_of len s.equations (row_of r pivots c)))
-            (λ c low2. (sym (rw (st.stage.own p low (all p (rw st.pivot_count low)), lt-ltb p u low) refl), sym (plane_is t (row_of r pivots c) lt))))
+      -- the sum of the pivot row of p: its first sum, and those that went into it
+      sum_before : (t p : ℕ) → t < len → p < u → row_of r pivots p < r → bit_xor (pivot_bytes t p) (product 0 bit_xor u (λ c. ltb c p && bits_of (width_of u) words (row_of r pivots p) c) (pivot_bytes t))
+          ≡ sum_in 0 bit_xor u u (bits_of (width_of u) words) (lead_of u leads) (row_of r pivots) (λ k. byte t (sum_of len s.equations k)) (row_of r pivots p)
+      sum_before t p lt low pivot = ap₂ bit_xor (sym (plane_is t (row_of r pivots p) lt))
+          (product_both u (λ c. ltb c p && bits_of (width_of u) words (row_of r pivots p) c) (taken_in u u (bits_of (width_of u) words) (lead_of u leads) (row_of r pivots p)) (pivot_bytes t) (λ c. byte t (sum_of len s.equations (row_of r pivots c)))
+          (λ c low2. (sym (rw (st.stage.own p low pivot, lt-ltb p u low) refl), sym (plane_is t (row_of r pivots c) lt))))
+
+      -- the value of an unknown with a pivot row comes from the row
+      valued : (t p : ℕ) → t < len → p < u → row_of r pivots p < r → byte t (symbol_at len (symbols_of len u values) p)
+          ≡ value 0 bit_xor u (bits_of (width_of u) words) (row_of r pivots) (sum_in 0 bit_xor u u (bits_of (width_of u) words) (lead_of u leads) (row_of r pivots) (λ k. byte t (sum_of len s.equations k))) p (λ c. byte t (symbol_at len (symbols_of len u values) c))
+      valued t p lt low pivot = value_byte t p lt low ∙ done p t low lt ∙ ap₂ bit_xor (sum_before t p lt low pivot)
+          (product_both u (behind (bits_of (width_of u) words) (row_of r pivots) p) (behind (bits_of (width_of u) words) (row_of r pivots) p) (byte_in len values t) (λ c. byte t (symbol_at len (symbols_of len u values) c)) (λ c low2. (refl, sym (value_byte t c lt low2))))
+
+      -- they are a solution,
+      pub read_solution : IsSolution s (symbol_at len (symbols_of len u values))
+      read_solution = values_are_solution s ok (bits_of (width_of u) first) (bits_of (width_of u) words) (row_of r pivots) (lead_of u leads) stage as_first rest
+          (symbol_at len (symbols_of len u values)) (symbol_at_is len (symbols_of len u values) each_symbol) (λ t p lt low pivot. valued t p lt low (subst (λ n. row_of r pivots p < n) count pivot))
+
+      -- and the only one where each unknown has a pivot row
+      pub read_one : AllPivots r pivots → IsAnswer s (answer.One (symbols_of len u values))
+      read_one all = answer_one s ok (bits_of (width_of u) first) (bits_of (width_of u) words) (row_of r pivots) (lead_of u leads) stage as_first rest
+          (λ p lt. rw count (pivot p lt)) (symbols_of len u values) (length-map-range_with_len (symbol_in len values) 0 u) each_symbol (λ t p lt low. valued t p lt low (pivot p low))
+        where
+          pivot : (p : ℕ) → p < u → row_of r pivots p < r
+          pivot p lt = all p (rw st.pivot_count lt)
 
     -- the flagged unknowns
     pub read_free : (f : ℕ) → IsFirstFree r pivots f → (flags : List Bool) → IsNullFlags u (bits_of (width_of u) words) (row_of r pivots) f flags → IsAnswer s (answer.Free (members u (flagged flags)))
@@ -156,11 +170,11 @@ packed_from u len r first words sums symbols same long sums_long few few2 some m
 }
 
 -- what the lists that a call saw give, for the system that they came from
-pub finished : (u len r : ℕ) (first words pivots leads : List ℕ) (sums : List (List ℕ)) (words_seen pivots_seen leads_seen : List ℕ) (found : Answer) → words_seen ≡ words → pivots_seen ≡ pivots → leads_seen ≡ leads → length first ≡ length words
+pub finished : (u len r : ℕ) (first words pivots leads : List ℕ) (sums : List (List ℕ)) (words_seen pivots_seen leads_seen : List ℕ) (P : System → Type 0) → words_seen ≡ words → pivots_seen ≡ pivots → leads_seen ≡ leads → length first ≡ length words
     → IsStageIn u r u (bits_of (width_of u) first) (bits_of (width_of u) words) pivots leads
     → ((f : List ℕ) → length f ≡ length words_seen → IsStageIn (length pivots_seen) (length leads_seen) (length pivots_seen) (bits_of (width_of (length pivots_seen)) f) (bits_of (width_of (length pivots_seen)) words_seen) pivots_seen leads_seen
-    → IsAnswer (packed_system (length pivots_seen) len (length leads_seen) f sums) found)
-    → IsAnswer (packed_system u len r first sums) found
-finished u len r first words pivots leads sums words_seen pivots_seen leads_seen found ws ps ls long st h =
-    subst₂ (λ (n m : ℕ). IsAnswer (packed_system n len m first sums) found) st.pivot_count st.lead_count
+    → P (packed_system (length pivots_seen) len (length leads_seen) f sums))
+    → P (packed_system u len r first sums)
+finished u len r first words pivots leads sums words_seen pivots_seen leads_seen P ws ps ls long st h =
+    subst₂ (λ (n m : ℕ). P (packed_system n len m first sums)) st.pivot_count st.lead_count
     ((rw (ws, ps, ls) at h) first long (subst₂ (λ (n m : ℕ). IsStageIn n m n (bits_of (width_of n) first) (bits_of (width_of n) words) pivots leads) (sym st.pivot_count) (sym st.lead_count) st))

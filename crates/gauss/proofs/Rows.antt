@@ -2,7 +2,8 @@
 use Rattle.std.specs.Prelude.{ℕ, List, slice_index_or}
 use Rattle.sparse_rows.specs.Closure.{Set}
 use Rattle.sparse_rows.specs.Matrix.{is_in}
-use Rattle.gauss.specs.Equations.{Equation, no_equation}
+use Rattle.gauss.specs.Equations.{Equation}
+use Rattle.gauss.specs.Filling.{no_equation}
 
 -- the unknowns of equation j, as a set
 abbrev pub mask_of : List Equation → ℕ → Set

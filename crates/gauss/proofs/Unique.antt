@@ -7,19 +7,21 @@ use Rattle.fec_base.specs.Symbol.{IsSymbol, xor, zero_symbol, xor_sum}
 use Rattle.sparse_rows.specs.Codeword.{IsAssignment, symbol_at}
 use Rattle.sparse_rows.specs.Matrix.{is_in}
 use Rattle.sparse_rows.specs.NullWord.{IsNullWord}
-use Rattle.sparse_rows.proofs.Algebra.{total, total_add, total_same, cancel}
+use Rattle.sparse_rows.proofs.Algebra.{total_add, total_same, cancel}
+use Rattle.sparse_rows.specs.Totals.{total}
 use Rattle.fec_base.proofs.SymbolBytes.{byte, byte_xor, same_bytes}
 use Rattle.sparse_rows.proofs.Planes.{byte_laws, byte_sum, length_sum, xor_is_symbol}
 use Rattle.sparse_rows.proofs.Parity.{even_to}
 use Rattle.sparse_rows.proofs.Null.{null_column}
 use Rattle.null_witness.proofs.First.{first_is_one}
 use Rattle.null_witness.proofs.Determined.{one_symbol, one_is_symbol, one_first, total_choose}
-use Rattle.gauss.specs.Equations.{Equation, System, IsSystem, IsSolution, matrix_of, no_equation}
+use Rattle.gauss.specs.Equations.{Equation, System, IsSystem, IsSolution, matrix_of}
+use Rattle.gauss.specs.Filling.{no_equation}
 use Rattle.gauss.specs.Answer.{IsAnswer}
 use Rattle.gauss.specs.declared.answer.Answer.{Answer}
 use Rattle.gauss.specs.declared.answer.Answer.TheVariants as answer
 
-row_at : (s : System) (j : ℕ) → j < length s.equations → get_or (matrix_of s).rows j [] ≡ (get_or s.equations j (no_equation 0)).unknowns
+pub row_at : (s : System) (j : ℕ) → j < length s.equations → get_or (matrix_of s).rows j [] ≡ (get_or s.equations j (no_equation 0)).unknowns
 row_at s j lt = get_or-map (λ (e : Equation). e.unknowns) s.equations j (no_equation 0) [] lt
 
 module _ (s : System) (x : ℕ → List ℕ) (h : IsSolution s x) (set : List ℕ) (null : IsNullWord (matrix_of s) (λ c. false) set) where

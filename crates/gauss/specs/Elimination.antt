@@ -5,7 +5,7 @@ use Rattle.std.specs.List.{range_with_len}
 use Rattle.std.proofs.Common.{ltb}
 use Rattle.std.proofs.Math.Bool.{xor as bool_xor}
 use Rattle.sparse_rows.specs.Closure.{Set, flagged}
-use Rattle.sparse_rows.proofs.Algebra.{total}
+use Rattle.sparse_rows.specs.Totals.{total}
 use Rattle.gauss.specs.Packed.{byte_in, sum_byte}
 
 -- what x gives to the members of the mask below u, summed

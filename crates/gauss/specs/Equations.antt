@@ -1,7 +1,7 @@
 -- Systems of linear equations whose unknowns are symbols.
-use Rattle.std.specs.Prelude.{◌≡◌, ◌<◌, ℕ, List, [], ◌∷◌, ◌++◌, map, slice_index_or, slice_set, All}
+use Rattle.std.specs.Prelude.{◌≡◌, ◌<◌, ℕ, List, map, All}
 use Rattle.std.specs.List.Sorted.{IsStrictlyIncreasing}
-use Rattle.fec_base.specs.Symbol.{IsSymbol, xor_sum, zero_symbol}
+use Rattle.fec_base.specs.Symbol.{IsSymbol, xor_sum}
 use Rattle.sparse_rows.specs.Matrix.{Matrix}
 use Rattle.sparse_rows.specs.Codeword.{IsAssignment}
 
@@ -15,27 +15,6 @@ pub record System : Type 0 where
   pub unknowns : ℕ
   pub len : ℕ
   pub equations : List Equation
-
--- the equation of no unknowns whose sum is zero
-abbrev pub no_equation : ℕ → Equation
-no_equation len = record { unknowns = []; sum = zero_symbol len }
-
--- equation r of the system
-abbrev pub equation_at : System → ℕ → Equation
-equation_at s r = slice_index_or s.equations r (no_equation s.len)
-
--- the equation with one more unknown at its end
-abbrev pub with_unknown : ℕ → Equation → Equation
-with_unknown c e = record { unknowns = e.unknowns ++ c ∷ []; sum = e.sum }
-
--- the equation with another sum
-abbrev pub with_sum : List ℕ → Equation → Equation
-with_sum bytes e = record { unknowns = e.unknowns; sum = bytes }
-
--- the system with another equation in place of equation r
-abbrev pub with_equation : System → ℕ → Equation → System
-with_equation s r e =
-    record { unknowns = s.unknowns; len = s.len; equations = slice_set s.equations r e }
 
 -- the unknowns rise and are below u, and the sum is a symbol
 pub record IsEquation (u len : ℕ) (e : Equation) : Type 0 where

@@ -1,7 +1,12 @@
 pub mod Equations
+pub mod Filling
 pub mod Answer
 pub mod Laws
 pub mod Packed
 pub mod Elimination
 pub mod Table
 pub mod Groups
+pub mod Reduction
+pub mod Reductions
+pub mod Masks
+pub mod ReductionLaws

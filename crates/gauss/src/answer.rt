@@ -1,5 +1,5 @@
 // What a system of equations determines.
-ghost use Rattle.std.specs.Prelude.{◌≡◌, ◌<◌, [], length, slice_index_or};
+ghost use Rattle.std.specs.Prelude.{◌≡◌, ◌<◌, ◌≤◌, [], length, slice_index_or};
 
 use null_witness::NullWord;
 use std::marker::Model;
@@ -38,6 +38,14 @@ impl Model for Values {
 }
 
 impl Values {
+    // How many symbols there are.
+    pub(crate) fn count(&self) -> u32
+        ensures value { result ≡ length self.now }
+        ensures few { result ≤ 65536 }
+    {
+        self.count
+    }
+
     /// The symbol of unknown i, counted from 0: as many bytes as a sum of the equations has.
     pub fn symbol(&self, i: u32) -> &[u8]
         requires { i < length self.now }

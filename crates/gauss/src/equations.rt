@@ -1,7 +1,7 @@
 // A system of equations, as it is put together.
 ghost use Rattle.std.specs.Prelude.{◌≡◌, ◌<◌, ◌≤◌, All, length, replicate, IfOk};
-ghost use Rattle.gauss.specs.Equations.{equation_at, no_equation, with_equation, with_sum};
-ghost use Rattle.gauss.specs.Equations.{with_unknown};
+ghost use Rattle.gauss.specs.Filling.{equation_at, no_equation, with_equation, with_sum};
+ghost use Rattle.gauss.specs.Filling.{with_unknown};
 
 use crate::packed::{put, width_of};
 use fec_base::NoMemory;

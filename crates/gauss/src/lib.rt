@@ -11,8 +11,11 @@ mod eliminate;
 mod entries;
 mod equations;
 mod laws;
+mod masks;
 mod null_set;
 mod packed;
+mod reduced;
+mod reducing;
 mod solving;
 mod substitution;
 mod symbols;
@@ -21,7 +24,9 @@ mod values;
 
 pub use answer::{Answer, Values};
 pub use equations::Equations;
-pub use laws::a_system_has_one_answer;
+pub use laws::{a_system_has_one_answer, reduced_sets_show_what_is_open};
+pub use reduced::Reduced;
+pub use reducing::{Reduction, reduce};
 pub use solving::solve;
 
 #[cfg(test)]

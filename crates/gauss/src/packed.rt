@@ -45,6 +45,25 @@ pub(crate) fn byte_of(words: &[u64], width: usize, r: usize, group: usize) -> us
     ((words[r * width + group / 8] >> (group % 8 * 8)) % 256) as usize
 }
 
+// The byte of row r of so many, with the bits from 8 * group on: zero where there is no such row.
+pub(crate) fn byte_or_zero(
+    words: &[u64],
+    width: usize,
+    rows: usize,
+    r: usize,
+    group: usize,
+) -> usize
+    requires words { length words.now ≡ rows * width }
+    requires group { group < width * 8 }
+    ensures value { result ≡ byte_of width words.now r group }
+    ensures byte { result < 256 }
+{
+    if r >= rows {
+        return 0;
+    }
+    byte_of(words, width, r, group)
+}
+
 // Puts bit c into row r.
 pub(crate) fn put(words: &mut [u64], width: usize, r: usize, c: usize)
     requires row { r * width + width ≤ length words.old }

@@ -9,7 +9,7 @@ use crate::clash::any_clashes;
 use crate::eliminate::eliminate;
 use crate::null_set::null_set;
 use crate::packed::width_of;
-use crate::values::only_values;
+use crate::values::some_values;
 use crate::{Answer, Equations};
 use fec_base::NoMemory;
 use std::alloc::Global;
@@ -65,7 +65,7 @@ fn read_answer(
     if let Some(free) = first_free(leads.len(), pivots) {
         return Ok(Answer::Free(null_set(alloc, words, width, leads.len(), pivots, free)?));
     }
-    let values = only_values(alloc, words, width, leads.len(), pivots, len, sums)?;
+    let values = some_values(alloc, words, width, leads.len(), pivots, len, sums)?;
     Ok(Answer::One(values))
 }
 

@@ -4,15 +4,16 @@ ghost use Rattle.std.specs.Prelude.{bit_xor};
 ghost use Rattle.std.specs.Int.{bit_at};
 ghost use Rattle.std.proofs.Common.{ltb};
 ghost use Rattle.gauss.specs.Packed.{KeepsOthers, bits_of, byte_in};
-ghost use Rattle.gauss.specs.Elimination.{AllPivots, AreSubstituted, before, behind, product};
+ghost use Rattle.gauss.specs.Elimination.{AreSubstituted, before, behind, product};
 ghost use Rattle.gauss.specs.Elimination.{row_of};
 ghost use Rattle.gauss.specs.Groups.{AreAdded, HoldsEntries, in_group};
 
 use crate::entries::{add_entry, fill};
-use crate::packed::{byte_of, group_end, has};
+use crate::packed::{byte_or_zero, group_end, has};
 use crate::symbols::add_symbol_within;
 
 // Makes each symbol, which was the sum of the pivot row of its unknown, the value of the unknown.
+// That of an unknown without a pivot row stays as it is.
 pub(crate) fn substitute(
     words: &[u64],
     width: usize,
@@ -25,7 +26,6 @@ pub(crate) fn substitute(
     requires few { length pivots.now ≤ 65536 }
     requires width { length pivots.now ≤ width * 64 }
     requires words { length words.now ≡ rows * width }
-    requires pivots { AllPivots rows pivots.now }
     requires len { len ≤ 65535 }
     requires symbols { length symbols.old ≡ length pivots.now * len }
     requires table { length table.old ≡ 256 * len }
@@ -51,7 +51,6 @@ fn add_recorded(
     requires few { length pivots.now ≤ 65536 }
     requires width { length pivots.now ≤ width * 64 }
     requires words { length words.now ≡ rows * width }
-    requires pivots { AllPivots rows pivots.now }
     requires len { len ≤ 65535 }
     requires symbols { length symbols.old ≡ length pivots.now * len }
     requires table { length table.old ≡ 256 * len }
@@ -81,7 +80,6 @@ fn add_group_recorded(
     requires few { length pivots.now ≤ 65536 }
     requires width { length pivots.now ≤ width * 64 }
     requires words { length words.now ≡ rows * width }
-    requires pivots { AllPivots rows pivots.now }
     requires group { group * 8 < length pivots.now }
     requires len { len ≤ 65535 }
     requires symbols { length symbols.old ≡ length pivots.now * len }
@@ -92,21 +90,21 @@ fn add_group_recorded(
         symbols.old symbols.old symbols.new }
 {
     for p in group * 8..pivots.len() {
-        let byte = byte_before(words, width, pivots[p] as usize, group, p);
+        let byte = byte_before(words, width, rows, pivots[p] as usize, group, p);
         add_entry(table, byte, len, symbols, p);
     }
 }
 
 // The byte of row r in a group, with the bits before p alone.
-fn byte_before(words: &[u64], width: usize, r: usize, group: usize, p: usize) -> usize
-    requires row { r * width + width ≤ length words.now }
+fn byte_before(words: &[u64], width: usize, rows: usize, r: usize, group: usize, p: usize) -> usize
+    requires words { length words.now ≡ rows * width }
     requires p { p < width * 64 }
     requires group { group * 8 ≤ p }
     ensures byte { result < 256 }
     ensures bits { (c : ℕ) → c / 8 ≡ group
         → (bit_at result (c % 8) == 1) ≡ (ltb c p && bits_of width words.now r c) }
 {
-    let byte = byte_of(words, width, r, group);
+    let byte = byte_or_zero(words, width, rows, r, group);
     if group < p / 8 {
         return byte;
     }
@@ -115,7 +113,7 @@ fn byte_before(words: &[u64], width: usize, r: usize, group: usize, p: usize) ->
 
 // Adds to each symbol the values behind it that its row has: once this is done for its group and
 // those behind it, the symbol is a value.
-fn add_values(
+pub(crate) fn add_values(
     words: &[u64],
     width: usize,
     rows: usize,
@@ -127,7 +125,6 @@ fn add_values(
     requires few { length pivots.now ≤ 65536 }
     requires width { length pivots.now ≤ width * 64 }
     requires words { length words.now ≡ rows * width }
-    requires pivots { AllPivots rows pivots.now }
     requires len { len ≤ 65535 }
     requires symbols { length symbols.old ≡ length pivots.now * len }
     requires table { length table.old ≡ 256 * len }
@@ -156,7 +153,6 @@ fn add_group_values(
     requires few { length pivots.now ≤ 65536 }
     requires width { length pivots.now ≤ width * 64 }
     requires words { length words.now ≡ rows * width }
-    requires pivots { AllPivots rows pivots.now }
     requires group { group * 8 < length pivots.now }
     requires len { len ≤ 65535 }
     requires symbols { length symbols.old ≡ length pivots.now * len }
@@ -184,7 +180,6 @@ fn add_values_within(
     requires few { length pivots.now ≤ 65536 }
     requires width { length pivots.now ≤ width * 64 }
     requires words { length words.now ≡ rows * width }
-    requires pivots { AllPivots rows pivots.now }
     requires group { group * 8 < length pivots.now }
     requires len { len ≤ 65535 }
     requires symbols { length symbols.old ≡ length pivots.now * len }
@@ -199,21 +194,22 @@ fn add_values_within(
     let end = group_end(group * 8, pivots.len());
     for k in 0..end - group * 8 {
         let p = end - 1 - k;
-        add_range(words, width, pivots[p] as usize, p, end, len, symbols);
+        add_range(words, width, rows, pivots[p] as usize, p, end, len, symbols);
     }
 }
 
-// Adds to symbol p those between it and `end` that row r has.
+// Adds to symbol p those between it and `end` that row r has, if there is such a row.
 fn add_range(
     words: &[u64],
     width: usize,
+    rows: usize,
     r: usize,
     p: usize,
     end: usize,
     len: usize,
     symbols: &mut [u8],
 )
-    requires row { r * width + width ≤ length words.now }
+    requires words { length words.now ≡ rows * width }
     requires p { p < end }
     requires end { end ≤ width * 64 }
     requires few { end ≤ 65536 }
@@ -225,6 +221,9 @@ fn add_range(
         (byte_in len symbols.old t)) }
     ensures others { KeepsOthers len p symbols.old symbols.new }
 {
+    if r >= rows {
+        return;
+    }
     for c in p + 1..end {
         if has(words, width, r, c) {
             add_symbol_within(symbols, p, c, len);
@@ -246,7 +245,6 @@ fn add_values_before(
     requires few { length pivots.now ≤ 65536 }
     requires width { length pivots.now ≤ width * 64 }
     requires words { length words.now ≡ rows * width }
-    requires pivots { AllPivots rows pivots.now }
     requires group { group * 8 < length pivots.now }
     requires len { len ≤ 65535 }
     requires symbols { length symbols.old ≡ length pivots.now * len }
@@ -261,7 +259,7 @@ fn add_values_before(
         → byte_in len symbols.new t p ≡ byte_in len symbols.old t p }
 {
     for p in 0..group * 8 {
-        let byte = byte_of(words, width, pivots[p] as usize, group);
+        let byte = byte_or_zero(words, width, rows, pivots[p] as usize, group);
         add_entry(table, byte, len, symbols, p);
     }
 }

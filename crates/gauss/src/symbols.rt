@@ -44,6 +44,15 @@ pub(crate) fn copy_symbol(symbols: &mut [u8], to: usize, from: usize, len: usize
     behind[..len].copy_from_slice(&before[from * len..from * len + len]);
 }
 
+// Makes the bytes of symbol c zero.
+pub(crate) fn clear_symbol(symbols: &mut [u8], c: usize, len: usize)
+    requires { c * len + len ≤ length symbols.old }
+    ensures symbol { (t : ℕ) → t < len → byte_in len symbols.new t c ≡ 0 }
+    ensures others { KeepsOthers len c symbols.old symbols.new }
+{
+    symbols[c * len..c * len + len].fill(0);
+}
+
 // Makes the bytes of symbol 0 zero.
 pub(crate) fn clear_first(symbols: &mut [u8], len: usize)
     requires { len ≤ length symbols.old }

@@ -1,7 +1,7 @@
 ghost use Rattle.std.specs.Prelude.{◌≡◌, ◌≢◌, ◌≤◌, ◌<◌, ◌+◌, ℕ, [], length, IfOk};
-ghost use Rattle.gauss.specs.Equations.{equation_at};
+ghost use Rattle.gauss.specs.Filling.{equation_at};
 
-use crate::{Answer, Equations, Values, solve};
+use crate::{Answer, Equations, Reduced, Reduction, reduce, solve};
 use fec_base::NoMemory;
 use std::alloc::Global;
 use std::process::Abort;
@@ -54,19 +54,12 @@ fn band(
     Ok(eqs)
 }
 
-// How many symbols there are.
-fn count_of(values: &Values) -> u32
-    ensures { result ≡ length values.now }
-{
-    values.count
-}
-
 // Whether unknown i is i, for all of them.
 fn is_counted(answer: &Answer, unknowns: u32) -> bool {
     let Answer::One(values) = answer else {
         return false;
     };
-    if count_of(values) != unknowns {
+    if values.count() != unknowns {
         return false;
     }
     for i in 0..unknowns {
@@ -183,7 +176,7 @@ fn is_pair(answer: &Answer, len: u32) -> bool {
     let Answer::One(values) = answer else {
         return false;
     };
-    if count_of(values) != 2 {
+    if values.count() != 2 {
         return false;
     }
     is_filled(values.symbol(0), 7, len) && is_filled(values.symbol(1), 6, len)
@@ -194,6 +187,123 @@ fn symbols_longer_than_a_tile_are_solved(rt: HostRuntime) -> Result<(), Fail> {
     for len in [1, 511, 512, 513, 1_030] {
         let answer = solve(rt.alloc(), pair(rt.alloc(), len)?)?;
         assert!(rt; is_pair(&answer, len));
+    }
+    Ok(())
+}
+
+// Whether unknown c is in the first of two null sets where the last unknown isn't 0, 3, 6 .. behind
+// it, and in the second where it isn't 1, 4, 7 .. behind it.
+fn is_of_threes(form: &Reduced, unknowns: u32) -> bool
+    requires { length form.now.symbols ≡ unknowns }
+{
+    if form.sets() != 2 {
+        return false;
+    }
+    for c in 0..unknowns {
+        let behind = (unknowns - 1 - c) % 3;
+        if form.holds(0, c) == (behind == 0) || form.holds(1, c) == (behind == 1) {
+            return false;
+        }
+        let first = if behind == 0 { 1 } else { 0 };
+        if form.first_with(c) != Some(first) || form.symbol(c).is_some() {
+            return false;
+        }
+    }
+    true
+}
+
+// Whether null set i is that of the unknowns that it holds.
+fn is_listed(alloc: Global, form: &Reduced, i: u32, unknowns: u32) -> Result<bool, NoMemory>
+    requires set { i < length form.now.sets }
+    requires unknowns { length form.now.symbols ≡ unknowns }
+{
+    let set = form.null_set(alloc, i)?;
+    for c in 0..unknowns {
+        if set.positions().contains(&c) != form.holds(i, c) {
+            return Ok(false);
+        }
+    }
+    Ok(true)
+}
+
+// Whether the equations have the null sets that three neighbours that sum to zero have.
+fn has_threes(alloc: Global, eqs: Equations, unknowns: u32) -> Result<bool, NoMemory>
+    requires { eqs.unknowns ≡ unknowns }
+{
+    let Reduction::Reduced(form) = reduce(alloc, eqs)? else {
+        return Ok(false);
+    };
+    if !is_of_threes(&form, unknowns) {
+        return Ok(false);
+    }
+    for i in 0..form.sets() {
+        if !is_listed(alloc, &form, i, unknowns)? {
+            return Ok(false);
+        }
+    }
+    Ok(true)
+}
+
+#[test]
+fn three_neighbours_that_sum_to_zero_leave_two_null_sets(rt: HostRuntime) -> Result<(), Fail> {
+    for u in [6, 64, 66, 129] {
+        let eqs = band(rt.alloc(), u, u - 2, u - 2, 3)?;
+        assert!(rt; has_threes(rt.alloc(), eqs, u)?);
+    }
+    Ok(())
+}
+
+// Whether each unknown below the last one is its own number, and the last one is open.
+fn is_open_at_the_end(form: &Reduced, unknowns: u32) -> bool
+    requires { length form.now.symbols ≡ unknowns }
+{
+    if form.sets() != 1 {
+        return false;
+    }
+    for c in 0..unknowns {
+        if form.holds(0, c) != (c == unknowns - 1) {
+            return false;
+        }
+        match form.symbol(c) {
+            Some(symbol) => {
+                if c == unknowns - 1 || symbol != [byte_of(c)].as_slice() {
+                    return false;
+                }
+            }
+            None => {
+                if c < unknowns - 1 {
+                    return false;
+                }
+            }
+        }
+    }
+    true
+}
+
+// Whether the equations give each unknown but the last one.
+fn gives_all_but_one(alloc: Global, eqs: Equations, unknowns: u32) -> Result<bool, NoMemory>
+    requires { eqs.unknowns ≡ unknowns }
+{
+    match reduce(alloc, eqs)? {
+        Reduction::Clash => Ok(false),
+        Reduction::Reduced(form) => Ok(is_open_at_the_end(&form, unknowns)),
+    }
+}
+
+#[test]
+fn unknowns_with_an_equation_are_fixed_beside_one_without(rt: HostRuntime) -> Result<(), Fail> {
+    for u in SIZES {
+        let eqs = band(rt.alloc(), u, u - 1, u - 1, 1)?;
+        assert!(rt; gives_all_but_one(rt.alloc(), eqs, u)?);
+    }
+    Ok(())
+}
+
+#[test]
+fn a_contradiction_has_no_reduced_form(rt: HostRuntime) -> Result<(), Fail> {
+    for u in SIZES {
+        let reduction = reduce(rt.alloc(), contradiction(rt.alloc(), u)?)?;
+        assert!(rt; matches!(reduction, Reduction::Clash));
     }
     Ok(())
 }

@@ -1,13 +1,13 @@
-// The only solution, some bytes of each symbol at a time.
+// A solution, some bytes of each symbol at a time.
 ghost use Rattle.std.specs.Prelude.{◌≡◌, ◌≤◌, ◌<◌, ◌+◌, ◌*◌, ◌⊎◌, ℕ, List, All, length, min};
-ghost use Rattle.std.specs.Prelude.{slice_index_or, IfOk};
+ghost use Rattle.std.specs.Prelude.{slice_index_or, IfOk, []};
 ghost use Rattle.fec_base.specs.Symbol.{IsSymbol, symbols_of};
 ghost use Rattle.gauss.specs.Packed.{AreSymbols, KeepsOthers, bits_of, byte_in, sum_byte};
-ghost use Rattle.gauss.specs.Elimination.{AllPivots, AreValues, IsValue, row_of};
+ghost use Rattle.gauss.specs.Elimination.{AreValues, IsValue, row_of};
 
 use crate::Values;
 use crate::substitution::substitute;
-use crate::symbols::{store_symbol, tell_bytes};
+use crate::symbols::{clear_symbol, store_symbol, tell_bytes};
 use fec_base::NoMemory;
 use std::alloc::Global;
 use symbol_arena::Arena;
@@ -16,8 +16,8 @@ use symbol_arena::Arena;
 // cache.
 const TILE: usize = 512;
 
-// The values of the unknowns, each of which has a pivot row.
-pub(crate) fn only_values(
+// The values of the unknowns, zero for those without a pivot row.
+pub(crate) fn some_values(
     alloc: Global,
     words: &[u64],
     width: usize,
@@ -30,7 +30,6 @@ pub(crate) fn only_values(
     requires width { length pivots.now ≤ width * 64 }
     requires rows { rows ≤ 65536 }
     requires words { length words.now ≡ rows * width }
-    requires pivots { AllPivots rows pivots.now }
     requires some { 1 ≤ len }
     requires most { len ≤ 65535 }
     requires sums { length sums.now ≡ rows }
@@ -86,7 +85,6 @@ fn write_values(
     requires width { length pivots.now ≤ width * 64 }
     requires rows { rows ≤ 65536 }
     requires words { length words.now ≡ rows * width }
-    requires pivots { AllPivots rows pivots.now }
     requires most { len ≤ 65535 }
     requires sums { length sums.now ≡ rows }
     requires symbols { All (IsSymbol len) sums.now }
@@ -137,7 +135,6 @@ fn write_tile(
     requires width { length pivots.now ≤ width * 64 }
     requires rows { rows ≤ 65536 }
     requires words { length words.now ≡ rows * width }
-    requires pivots { AllPivots rows pivots.now }
     requires most { len ≤ 65535 }
     requires sums { length sums.now ≡ rows }
     requires symbols { All (IsSymbol len) sums.now }
@@ -167,7 +164,8 @@ fn write_tile(
     store_tile(pivots.len(), len, part, start, size, values);
 }
 
-// Makes each symbol of a tile that part of the sum of its unknown's pivot row.
+// Makes each symbol of a tile that part of the sum of its unknown's pivot row, zero where there is
+// none.
 fn load_tile(
     rows: usize,
     pivots: &[u32],
@@ -179,7 +177,6 @@ fn load_tile(
 )
     requires few { length pivots.now ≤ 65536 }
     requires rows { rows ≤ 65536 }
-    requires pivots { AllPivots rows pivots.now }
     requires most { len ≤ 65535 }
     requires sums { length sums.now ≡ rows }
     requires symbols { All (IsSymbol len) sums.now }
@@ -189,8 +186,33 @@ fn load_tile(
         ≡ sum_byte sums.now (start + t) (row_of rows pivots.now p) }
 {
     for p in 0..pivots.len() {
-        store_symbol(part, p, &sums.get(pivots[p])[start..start + size]);
+        load_part(rows, pivots[p], sums, start, size, part, p);
     }
+}
+
+// Makes symbol p of a tile that part of the sum of row r, zero where there is no such row.
+fn load_part(
+    rows: usize,
+    r: u32,
+    sums: &Arena,
+    start: usize,
+    size: usize,
+    part: &mut [u8],
+    p: usize,
+)
+    requires rows { rows ≤ 65536 }
+    requires sums { length sums.now ≡ rows }
+    requires long { (j : ℕ) → j < rows → start + size ≤ length (slice_index_or sums.now j []) }
+    requires part { p * size + size ≤ length part.old }
+    ensures symbol { (t : ℕ) → t < size
+        → byte_in size part.new t p ≡ sum_byte sums.now (start + t) r }
+    ensures others { KeepsOthers size p part.old part.new }
+{
+    if r as usize >= rows {
+        clear_symbol(part, p, size);
+        return;
+    }
+    store_symbol(part, p, &sums.get(r)[start..start + size]);
 }
 
 // Puts a tile's bytes into the values.

@@ -5,3 +5,5 @@ pub mod Bits
 pub mod Determined
 pub mod Search
 pub mod Evenness
+pub mod ReducedWords
+pub mod NullWords

@@ -3,8 +3,9 @@ use Rattle.std.specs.Prelude.{◌≡◌, ◌≤◌, ℕ, ◌↔◌, List}
 use Rattle.sparse_rows.specs.Matrix.{Matrix, HasShape}
 use Rattle.sparse_rows.specs.Codeword.{Arrival, positions}
 use Rattle.sparse_rows.specs.Closure.{Set, IsWithin, closure}
-use Rattle.sparse_rows.specs.NullWord.{IsNullWord, IsFirstNullWord}
+use Rattle.sparse_rows.specs.NullWord.{IsNullWord, IsFirstNullWord, last_of}
 use Rattle.sparse_rows.specs.Fitting.{IsFitting, IsUndetermined}
+use Rattle.null_witness.specs.ReducedWords.{IsLate, IsReducedWord}
 
 -- a null word of a set is a null word of each of its subsets
 abbrev pub NullWordOfSubset : Type 0
@@ -27,3 +28,14 @@ abbrev pub UndeterminedByNullWord : Type 0
 UndeterminedByNullWord = (m : Matrix) (len : ℕ) (arrivals : List Arrival) (fitting : List (List ℕ))
     → HasShape m → 1 ≤ len → IsFitting m len arrivals fitting
     → IsUndetermined m len arrivals ↔ ((word : List ℕ) × IsNullWord m (positions arrivals) word)
+
+-- at each position where a null word ends a reduced null word does
+abbrev pub LateHasReducedWord : Type 0
+LateHasReducedWord = (m : Matrix) (s : Set) (position : ℕ) → IsLate (IsNullWord m s) position
+    → (word : List ℕ) × IsReducedWord (IsNullWord m s) word × (last_of word ≡ position)
+
+-- and only one
+abbrev pub LateHasOneReducedWord : Type 0
+LateHasOneReducedWord = (m : Matrix) (s : Set) (word other : List ℕ)
+    → IsReducedWord (IsNullWord m s) word → IsReducedWord (IsNullWord m s) other
+    → last_of word ≡ last_of other → word ≡ other

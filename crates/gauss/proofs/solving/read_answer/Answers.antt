@@ -37,4 +37,4 @@ returns c first long st =
     subst (λ values. IsAnswer (packed_system u c.args.len r first c.args.sums.now) (answer.One values)) (sym w.4)
     (read_one u c.args.len r first c.args.words.now c.args.sums.now c.args.pivots.now c.args.leads.now
     (packed_from u c.args.len r first c.args.words.now c.args.sums.now c.requires.symbols long c.requires.words c.requires.sums c.requires.pivots c.requires.leads c.requires.some c.requires.most) st
-    zero c.in_default.ensures w.0 w.1 w.2 w.3)
+    zero w.0 w.1 w.2 w.3 c.in_default.ensures)

@@ -1,4 +1,4 @@
-use Rattle.std.proofs.Common.{◌≡◌, ◌<◌, ◌&&◌, ℕ, List, length, get_or, ⊎_elim, bit_xor, ltb, refl, sym, ap, ◌∙◌, arith}
+use Rattle.std.proofs.Common.{◌≡◌, ◌&&◌, ℕ, List, length, get_or, ⊎_elim, bit_xor, ltb, refl, sym, ap, ◌∙◌, arith}
 use Rattle.std.proofs.lemmas.Bool.{cases_eq}
 use Rattle.std.proofs.lemmas.List.{get_or_default}
 use Rattle.sparse_rows.proofs.Algebra.{right}
@@ -15,14 +15,6 @@ loop-p-init c = record {
   done = λ q t lt lt2. sym (ap (bit_xor (byte_in c.args.len c.args.symbols.now t q)) (none_yet 0 bit_xor byte_laws (length c.args.pivots.now) c.args.group q (bits_of c.args.width c.args.words.now (row_of c.args.rows c.args.pivots.now q)) (byte_in c.args.len c.args.symbols.now t) lt) ∙ right 0 bit_xor byte_laws _);
   rest = λ q t le lt. refl;
 }
-
-pub byte_before-byte-requires-clause-row : goal.byte_before-byte-requires-clause-row
-byte_before-byte-requires-clause-row c =
-    let p : ℕ = c.loop-p.p in
-    let inside : p < length c.args.pivots.now = omega (arith, c.loop-p-test.true) in
-    let is : get_or c.args.pivots.now p 0 ≡ row_of c.args.rows c.args.pivots.now p = get_or_default c.args.pivots.now p 0 c.args.rows inside in
-    let low : get_or c.args.pivots.now p 0 < c.args.rows = omega (arith, is, c.requires.pivots p inside) in
-    omega (arith, row_room c.args.rows c.args.width (get_or c.args.pivots.now p 0) low, c.requires.words)
 
 pub add_entry-requires-clause-symbols : goal.add_entry-requires-clause-symbols
 add_entry-requires-clause-symbols c = omega (arith, row_room (length c.args.pivots.now) c.args.len c.loop-p.p (omega (arith, c.loop-p-test.true)), c.loop-p.auto.symbols, c.requires.symbols)

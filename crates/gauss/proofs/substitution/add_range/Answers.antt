@@ -3,6 +3,8 @@ use Rattle.std.proofs.lemmas.Bool.{lt-ltb, le-ltb}
 use Rattle.sparse_rows.proofs.Algebra.{right}
 use Rattle.sparse_rows.proofs.Planes.{byte_laws}
 use Rattle.gauss.specs.Packed.{bits_of, byte_in}
+use Rattle.gauss.proofs.Clearing.{and_no}
+use Rattle.gauss.proofs.Past.{bits_past}
 use Rattle.gauss.proofs.Growing.{product_step}
 use Rattle.gauss.proofs.Products.{product_none}
 use Rattle.gauss.proofs.Words.{row_room}
@@ -14,6 +16,13 @@ loop-c-init c = record {
   symbol = λ t lt. sym (ap (bit_xor (byte_in c.args.len c.args.symbols.now t c.args.p)) (product_none 0 bit_xor byte_laws (c.args.p + 1) (λ d. ltb c.args.p d && bits_of c.args.width c.args.words.now c.args.r d) (byte_in c.args.len c.args.symbols.now t) (λ d lt2. rw (le-ltb c.args.p d (omega (arith, lt2))) refl)) ∙ right 0 bit_xor byte_laws _);
   others = λ q t ne lt. refl;
 }
+
+pub has-requires-clause-row : goal.has-requires-clause-row
+has-requires-clause-row c = omega (arith, row_room c.args.rows c.args.width c.args.r c.if-r-rows.false, c.requires.words)
+
+pub returns-then-r-rows-clause-symbol : goal.returns-then-r-rows-clause-symbol
+returns-then-r-rows-clause-symbol c t lt = sym (ap (bit_xor (byte_in c.args.len c.args.symbols.now t c.args.p)) (product_none 0 bit_xor byte_laws c.args.end (λ d. ltb c.args.p d && bits_of c.args.width c.args.words.now c.args.r d) (byte_in c.args.len c.args.symbols.now t)
+    (λ d lt2. ap (λ b. ltb c.args.p d && b) (bits_past c.args.rows c.args.width c.args.r c.args.words.now c.requires.words c.if-r-rows.true d) ∙ and_no (ltb c.args.p d))) ∙ right 0 bit_xor byte_laws _)
 
 pub add_symbol_within-requires-clause-c : goal.add_symbol_within-requires-clause-c
 add_symbol_within-requires-clause-c c = omega (arith, row_room c.args.end c.args.len c.loop-c.c (omega (arith, c.loop-c-test.true)), c.loop-c.auto.symbols, c.requires.symbols)

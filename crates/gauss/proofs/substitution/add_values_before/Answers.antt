@@ -1,4 +1,4 @@
-use Rattle.std.proofs.Common.{◌≡◌, ◌<◌, ◌%◌, ◌==◌, ℕ, List, length, get_or, ⊎_elim, bit_xor, refl, sym, ap, ◌∙◌, arith}
+use Rattle.std.proofs.Common.{◌≡◌, ◌%◌, ◌==◌, ℕ, List, length, get_or, ⊎_elim, bit_xor, refl, sym, ap, ◌∙◌, arith}
 use Rattle.std.specs.Int.{bit_at}
 use Rattle.std.proofs.lemmas.Bool.{cases_eq}
 use Rattle.std.proofs.lemmas.List.{get_or_default}
@@ -12,14 +12,6 @@ use Rattle.gauss.proofs.substitution.add_values_before.Goals as goal
 
 pub loop-p-init : goal.loop-p-init
 loop-p-init c = record { done = λ q t lt. absurd (omega (arith, lt)); rest = λ q t le lt. refl }
-
-pub byte_of-byte-requires-clause-row : goal.byte_of-byte-requires-clause-row
-byte_of-byte-requires-clause-row c =
-    let p : ℕ = c.loop-p.p in
-    let inside : p < length c.args.pivots.now = omega (arith, c.loop-p-test.true, c.requires.group) in
-    let is : get_or c.args.pivots.now p 0 ≡ row_of c.args.rows c.args.pivots.now p = get_or_default c.args.pivots.now p 0 c.args.rows inside in
-    let low : get_or c.args.pivots.now p 0 < c.args.rows = omega (arith, is, c.requires.pivots p inside) in
-    omega (arith, row_room c.args.rows c.args.width (get_or c.args.pivots.now p 0) low, c.requires.words)
 
 pub add_entry-requires-clause-symbols : goal.add_entry-requires-clause-symbols
 add_entry-requires-clause-symbols c = omega (arith, row_room (length c.args.pivots.now) c.args.len c.loop-p.p (omega (arith, c.loop-p-test.true, c.requires.group)), c.loop-p.auto.symbols, c.requires.symbols)
@@ -35,12 +27,12 @@ loop-p-preserved c =
     let first : List ℕ = c.args.symbols.now in
     let rows = row_of c.args.rows c.args.pivots.now in
     let row_is : get_or c.args.pivots.now p 0 ≡ rows p = get_or_default c.args.pivots.now p 0 c.args.rows (omega (arith, c.loop-p-test.true, c.requires.group)) in
-    let byte_is : c.byte_of-byte.result ≡ byte_of w c.args.words.now (rows p) g = c.byte_of-byte.ensures.value ∙ ap (λ r. byte_of w c.args.words.now r g) row_is in
+    let byte_is : c.byte_or_zero-byte.result ≡ byte_of w c.args.words.now (rows p) g = c.byte_or_zero-byte.ensures.value ∙ ap (λ r. byte_of w c.args.words.now r g) row_is in
     record {
       done = λ q t lt lt2. ⊎_elim
-          (λ (e : q ≡ p). rw e (c.add_entry.ensures.symbol t lt2 ∙ ap (λ x. bit_xor x (byte_in n c.args.table.now t c.byte_of-byte.result)) (i.rest p t (omega arith) lt2)
-          ∙ ap (bit_xor (byte_in n first t p)) (c.requires.entries c.byte_of-byte.result t c.byte_of-byte.ensures.byte lt2
-          ∙ entry_of_row 0 bit_xor byte_laws u g c.byte_of-byte.result (bits_of w c.args.words.now (rows p)) (byte_in n first t) (λ d lt3 e2. bit_of_byte w c.args.words.now (rows p) g d e2 (omega (arith, lt3, c.requires.width)) ∙ ap (λ b. bit_at b (d % 8) == 1) (sym byte_is)))))
+          (λ (e : q ≡ p). rw e (c.add_entry.ensures.symbol t lt2 ∙ ap (λ x. bit_xor x (byte_in n c.args.table.now t c.byte_or_zero-byte.result)) (i.rest p t (omega arith) lt2)
+          ∙ ap (bit_xor (byte_in n first t p)) (c.requires.entries c.byte_or_zero-byte.result t c.byte_or_zero-byte.ensures.byte lt2
+          ∙ entry_of_row 0 bit_xor byte_laws u g c.byte_or_zero-byte.result (bits_of w c.args.words.now (rows p)) (byte_in n first t) (λ d lt3 e2. bit_of_byte w c.args.words.now (rows p) g d e2 (omega (arith, lt3, c.requires.width)) ∙ ap (λ b. bit_at b (d % 8) == 1) (sym byte_is)))))
           (λ ne. c.add_entry.ensures.others q t ne lt2 ∙ i.done q t (omega (arith, ne)) lt2) (cases_eq q p);
       rest = λ q t le lt2. c.add_entry.ensures.others q t (λ e. omega (arith, e)) lt2 ∙ i.rest q t (omega arith) lt2;
     }

@@ -6,20 +6,11 @@ use Rattle.sparse_rows.proofs.Planes.{byte_laws}
 use Rattle.gauss.specs.Packed.{bits_of, byte_in}
 use Rattle.gauss.specs.Elimination.{behind, product, row_of}
 use Rattle.gauss.specs.Groups.{in_group}
-use Rattle.gauss.proofs.Words.{row_room}
 use Rattle.gauss.proofs.Passes.{behind_in_group, within_group}
 use Rattle.gauss.proofs.substitution.add_values_within.Goals as goal
 
 pub loop-k-init : goal.loop-k-init
 loop-k-init c = record { own = λ p t lt e le. absurd (omega (arith, lt, e, le, c.group_end-end.ensures.whole)); rest = λ p t w lt. refl }
-
-pub add_range-requires-clause-row : goal.add_range-requires-clause-row
-add_range-requires-clause-row c =
-    let p : ℕ = c.group_end-end.result - 1 - c.loop-k.k in
-    let inside : p < length c.args.pivots.now = omega (arith, c.loop-k-test.true, c.group_end-end.ensures.within) in
-    let is : get_or c.args.pivots.now p 0 ≡ row_of c.args.rows c.args.pivots.now p = get_or_default c.args.pivots.now p 0 c.args.rows inside in
-    let low : get_or c.args.pivots.now p 0 < c.args.rows = omega (arith, is, c.requires.pivots p inside) in
-    omega (arith, row_room c.args.rows c.args.width (get_or c.args.pivots.now p 0) low, c.requires.words)
 
 pub add_range-requires-clause-symbols : goal.add_range-requires-clause-symbols
 add_range-requires-clause-symbols c = omega (arith, mul-le-mul_right c.args.len c.group_end-end.ensures.within, c.loop-k.auto.symbols, c.requires.symbols)

@@ -1,5 +1,5 @@
 use Rattle.std.proofs.Common.{◌≡◌, ◌≤◌, ℕ, [], length}
-use Rattle.gauss.specs.Equations.{equation_at}
+use Rattle.gauss.specs.Filling.{equation_at}
 use Rattle.gauss.proofs.tests.band.Given as goal
 
 abbrev pub invariant-loop-i : goal.invariant-loop-i

@@ -1,5 +1,5 @@
 use Rattle.std.proofs.Common.{◌≡◌, ◌≢◌, ◌<◌, ℕ, All, length}
-use Rattle.gauss.specs.Equations.{equation_at}
+use Rattle.gauss.specs.Filling.{equation_at}
 use Rattle.gauss.proofs.tests.put_equation.Given as goal
 
 abbrev pub invariant-loop-unknown : goal.invariant-loop-unknown

@@ -1,6 +1,7 @@
 use Rattle.std.proofs.Common.{◌<◌, All, ℕ, List, length, drop, sym, ap, ◌∙◌, subst, arith}
 use Rattle.std.proofs.lemmas.List.{take_at}
-use Rattle.gauss.specs.Equations.{System, equation_at, with_equation, with_unknown}
+use Rattle.gauss.specs.Equations.{System}
+use Rattle.gauss.specs.Filling.{equation_at, with_equation, with_unknown}
 use Rattle.gauss.specs.Packed.{packed_system, width_of}
 use Rattle.gauss.proofs.Words.{row_room}
 use Rattle.gauss.proofs.Building.{inside_rows, with_column}

@@ -2,7 +2,8 @@ use Rattle.std.proofs.Common.{◌≡◌, ◌<◌, All, ℕ, List, [], length, ge
 use Rattle.std.proofs.lemmas.Bool.{cases_eq}
 use Rattle.std.proofs.lemmas.List.Elements.{All-from_get_or}
 use Rattle.fec_base.specs.Symbol.{IsSymbol}
-use Rattle.gauss.specs.Equations.{System, equation_at, with_equation, with_sum}
+use Rattle.gauss.specs.Equations.{System}
+use Rattle.gauss.specs.Filling.{equation_at, with_equation, with_sum}
 use Rattle.gauss.specs.Packed.{packed_system}
 use Rattle.gauss.proofs.Building.{inside_rows, with_symbol}
 use Rattle.gauss.proofs.equations.Equations.set_sum.Goals as goal

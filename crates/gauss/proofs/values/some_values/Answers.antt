@@ -1,7 +1,7 @@
 use Rattle.std.proofs.Common.{◌≡◌, ◌<◌, length, drop, ℕ, List, All, ap, ◌∙◌, subst, arith}
 use Rattle.std.proofs.lemmas.List.{take_at}
 use Rattle.fec_base.specs.Symbol.{symbols_of}
-use Rattle.gauss.proofs.values.only_values.Goals as goal
+use Rattle.gauss.proofs.values.some_values.Goals as goal
 
 pub values_of-requires : goal.values_of-requires
 values_of-requires c =
