@@ -1,7 +1,8 @@
 -- A system whose equations are filled in one by one.
 use Rattle.std.proofs.Common.{◌≡◌, ℕ, ◌<◌, List, [], ◌∷◌, ◌++◌, length, All, ap, ◌∙◌}
 use Rattle.std.proofs.lemmas.List.{set-set, get_or-set_same}
-use Rattle.gauss.specs.Equations.{Equation, System, equation_at, no_equation, with_equation, with_unknown}
+use Rattle.gauss.specs.Equations.{Equation, System}
+use Rattle.gauss.specs.Filling.{equation_at, no_equation, with_equation, with_unknown}
 use Rattle.fec_session.specs.Residual.{with_unknowns}
 
 -- of two equations put in one place the later stays

@@ -1,7 +1,8 @@
 -- The bound on the steps of one block's decoder, said of the list of all decoders.
 use Rattle.std.proofs.Common.{◌≡◌, ℕ, ◌<◌, ◌≤◌, ◌+◌, ◌*◌, List, length, get_or, set, sym, subst₂, ◌∙◌}
 use Rattle.std.proofs.lemmas.List.{get_or-set_same, get_or_default}
-use Rattle.peeling.specs.Decoder.{Decoder, known_entries}
+use Rattle.peeling.specs.Decoder.{Decoder}
+use Rattle.peeling.specs.Lookups.{known_entries}
 
 -- what bounds the steps by the decoder of block b does so by that block's place in the lists
 pub bound_at : (cores : List Decoder) (b : ℕ) (old now : Decoder) (before after : ℕ) → b < length cores

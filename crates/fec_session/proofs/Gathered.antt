@@ -6,7 +6,8 @@ use Rattle.std.proofs.lemmas.List.Elements.{filter_more}
 use Rattle.std.proofs.lemmas.List.Sums.{length-filter, sum_by-drop_more}
 use Rattle.sparse_rows.specs.Matrix.{Matrix, row_of}
 use Rattle.peeling.specs.Decoder.{Decoder, IsDecoder}
-use Rattle.gauss.specs.Equations.{Equation, System, equation_at, no_equation, with_equation, with_sum}
+use Rattle.gauss.specs.Equations.{Equation, System}
+use Rattle.gauss.specs.Filling.{equation_at, no_equation, with_equation, with_sum}
 use Rattle.fec_session.specs.Residue.{equation_of, is_open, unknown_columns}
 use Rattle.fec_session.specs.Residual.{with_unknowns}
 use Rattle.fec_session.proofs.Assembled.{put_twice, put_is}

@@ -9,7 +9,8 @@ use Rattle.fec_base.specs.Symbol.{IsSymbol, xor, xor_sum, zero_symbol}
 use Rattle.sparse_rows.specs.Codeword.{IsAssignment, Arrival, positions, symbol_at, SumsToZero}
 use Rattle.sparse_rows.specs.Closure.{Set, flagged, outside}
 use Rattle.sparse_rows.specs.Fitting.{IsFitting}
-use Rattle.sparse_rows.proofs.Algebra.{total, total_split, total_agree, same_of_zero}
+use Rattle.sparse_rows.proofs.Algebra.{total_split, total_agree, same_of_zero}
+use Rattle.sparse_rows.specs.Totals.{total}
 use Rattle.sparse_rows.proofs.Sets.{true_or_false, rounds_hold, any_from}
 use Rattle.sparse_rows.proofs.Shape.{row_below}
 use Rattle.sparse_rows.proofs.Closed.{row_within}

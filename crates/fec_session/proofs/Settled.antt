@@ -2,7 +2,8 @@
 use Rattle.std.proofs.Common.{◌≡◌, ℕ, ◌<◌, List, [], ◌∷◌, ◌++◌, length, get_or, refl, sym, subst₂, arith, length-append, ⊎_elim, eq-or-lt_of_le}
 use Rattle.std.proofs.lemmas.List.{get_or_append_left, get_or_push}
 use Rattle.sparse_rows.specs.Matrix.{Matrix}
-use Rattle.peeling.specs.Decoder.{Decoder, IsEmpty}
+use Rattle.peeling.specs.Decoder.{Decoder}
+use Rattle.peeling.specs.Lookups.{IsEmpty}
 use Rattle.peeling.specs.Stands.{StandsFor}
 use Rattle.fec_session.specs.Session.{AreNew, ComeOut, ComesOut, HoldsOutcome}
 use Rattle.fec_session.specs.declared.outcome.Outcome.{Outcome}

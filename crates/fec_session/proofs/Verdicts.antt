@@ -12,7 +12,8 @@ use Rattle.sparse_rows.specs.Closure.{Set, flagged, outside, closure}
 use Rattle.sparse_rows.specs.Matrix.{is_in}
 use Rattle.sparse_rows.specs.NullWord.{IsNullWord, IsFirstNullWord, last_of}
 use Rattle.sparse_rows.specs.Fitting.{IsFitting, IsUndetermined}
-use Rattle.sparse_rows.proofs.Algebra.{total, total_same, total_split, total_agree, total_zero}
+use Rattle.sparse_rows.proofs.Algebra.{total_same, total_split, total_agree, total_zero}
+use Rattle.sparse_rows.specs.Totals.{total}
 use Rattle.sparse_rows.proofs.Parity.{bit_laws, even_from, even_to}
 use Rattle.sparse_rows.proofs.Sets.{true_or_false, same_test, rounds_hold, or_cases, or_first, or_second}
 use Rattle.sparse_rows.proofs.Shape.{row_below}
@@ -23,7 +24,8 @@ use Rattle.null_witness.proofs.Determined.{two_of_null}
 use Rattle.gauss.specs.Equations.{Equation, matrix_of}
 use Rattle.gauss.specs.Answer.{IsAnswer, IsFirstNullSet}
 use Rattle.gauss.specs.declared.answer.Answer.TheVariants as answer
-use Rattle.peeling.specs.Decoder.{Decoder, IsDecoder, HasAllSource, kept}
+use Rattle.peeling.specs.Decoder.{Decoder, IsDecoder, kept}
+use Rattle.peeling.specs.Lookups.{HasAllSource}
 use Rattle.peeling.specs.Stands.{StandsFor}
 use Rattle.peeling.proofs.Closure.{closure_full}
 use Rattle.peeling.proofs.Decided.{codeword_consistent, kept_of_codeword}

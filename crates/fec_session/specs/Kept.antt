@@ -3,7 +3,8 @@ use Rattle.std.specs.Prelude.{◌≡◌, ◌<◌, ℕ, true, List, [], All, leng
 use Rattle.std.specs.List.{range_with_len}
 use Rattle.sparse_rows.specs.Codeword.{symbol_at}
 use Rattle.sparse_rows.specs.Closure.{flagged}
-use Rattle.peeling.specs.Decoder.{Decoder, HasAllSource}
+use Rattle.peeling.specs.Decoder.{Decoder}
+use Rattle.peeling.specs.Lookups.{HasAllSource}
 use Rattle.fec_session.specs.Residue.{completed, unknown_columns}
 use Rattle.fec_session.specs.declared.verdict.Solved.{Solved}
 

@@ -4,7 +4,8 @@ use Rattle.std.specs.Prelude.{slice_index_or, slice_set}
 use Rattle.sparse_rows.specs.Matrix.{Matrix}
 use Rattle.sparse_rows.specs.Codeword.{Arrival}
 use Rattle.fec_base.specs.Told.{Telling, GrowsTold}
-use Rattle.peeling.specs.Decoder.{Decoder, IsEmpty, kept}
+use Rattle.peeling.specs.Decoder.{Decoder, kept}
+use Rattle.peeling.specs.Lookups.{IsEmpty}
 use Rattle.peeling.specs.Stands.{Receives, StandsFor}
 use Rattle.fec_session.specs.Determines.{Determines}
 use Rattle.fec_session.specs.declared.outcome.Outcome.{Outcome}

@@ -2,7 +2,8 @@
 ghost use Rattle.std.specs.Prelude.{◌≡◌, ◌↔◌, ◌<◌, ◌≤◌, ◌+◌, ◌*◌, ℕ, true, [], IsTrue, IsSome};
 ghost use Rattle.std.specs.Prelude.{IfSome, IfOk, IfErr, length, count_by};
 ghost use Rattle.sparse_rows.specs.Closure.{flagged};
-ghost use Rattle.peeling.specs.Decoder.{kept, known_entries, HasAllSource, IsDecoder, IsEmpty};
+ghost use Rattle.peeling.specs.Decoder.{kept, IsDecoder};
+ghost use Rattle.peeling.specs.Lookups.{known_entries, HasAllSource, IsEmpty};
 ghost use Rattle.peeling.specs.Stands.{StandsFor, Receives};
 ghost use Rattle.peeling.specs.Outcome.{IsOutcome};
 ghost use Rattle.fec_session.specs.Verdict.{Decides, Holds};

@@ -3,7 +3,8 @@ ghost use Rattle.std.specs.Prelude.{◌≡◌, ◌↔◌, ◌<◌, ◌≤◌, �
 ghost use Rattle.std.specs.Prelude.{slice_index_or, All, IsTrue, IfOk, IfErr, OnOk};
 ghost use Rattle.fec_base.specs.Causes.{HasCause};
 ghost use Rattle.fec_base.specs.Told.{GrowsTold};
-ghost use Rattle.peeling.specs.Decoder.{Decoder, HasAllSource, known_entries};
+ghost use Rattle.peeling.specs.Decoder.{Decoder};
+ghost use Rattle.peeling.specs.Lookups.{HasAllSource, known_entries};
 ghost use Rattle.peeling.specs.Outcome.{IsOutcome};
 ghost use Rattle.fec_session.specs.Session.{AreNew, ComeOut, ReceivesAt, TellsFront, rebuilt};
 ghost use Rattle.fec_session.specs.declared.outcome.Outcome.{Outcome};

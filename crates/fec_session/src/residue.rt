@@ -5,7 +5,7 @@ ghost use Rattle.std.specs.List.{range_with_len};
 ghost use Rattle.sparse_rows.specs.Matrix.{row_of};
 ghost use Rattle.sparse_rows.specs.Closure.{flagged};
 ghost use Rattle.peeling.specs.Decoder.{IsDecoder};
-ghost use Rattle.gauss.specs.Equations.{equation_at, no_equation, with_equation};
+ghost use Rattle.gauss.specs.Filling.{equation_at, no_equation, with_equation};
 ghost use Rattle.fec_session.specs.Residue.{equation_of, is_open, place, residue, unknown_columns};
 ghost use Rattle.fec_session.specs.Residual.{with_unknowns};
 

@@ -2,7 +2,7 @@
 ghost use Rattle.std.specs.Prelude.{◌≡◌, ◌<◌, ◌≤◌, ◌+◌, ◌*◌, [], length, All, IfOk, IfErr, OnOk};
 ghost use Rattle.fec_base.specs.Causes.{HasCause};
 ghost use Rattle.fec_base.specs.Told.{GrowsTold};
-ghost use Rattle.peeling.specs.Decoder.{IsEmpty, known_entries};
+ghost use Rattle.peeling.specs.Lookups.{IsEmpty, known_entries};
 ghost use Rattle.peeling.specs.Stands.{Receives, StandsFor};
 ghost use Rattle.peeling.specs.Outcome.{IsOutcome};
 ghost use Rattle.fec_session.specs.Kept.{IsKnownPosition};
@@ -15,6 +15,8 @@ use null_witness::NullWord;
 use peeling::Arrival;
 use sparse_rows::Code;
 use std::alloc::Global;
+use std::error::Error;
+use std::fmt;
 use std::marker::Model;
 
 #[cfg(test)]
@@ -26,6 +28,15 @@ mod tests;
 pub struct WatchFault {
     pub told: u32,
 }
+
+impl fmt::Display for WatchFault {
+    fn fmt<W: fmt::Write>(&self, f: &mut fmt::Formatter<W>) -> fmt::Result {
+        let told = self.told;
+        write!(f, "the watch failed after {told} symbols")
+    }
+}
+
+impl Error for WatchFault {}
 
 /// A decoder of one source block, and a watch that is told of each symbol that it rebuilds, as soon
 /// as the symbol that makes it known has arrived. It has the memory for all arrivals from the

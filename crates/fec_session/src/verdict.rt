@@ -2,7 +2,7 @@
 ghost use Rattle.std.specs.Prelude.{◌≡◌, ◌<◌, ◌≤◌, ℕ, true, false, [], length, Contains};
 ghost use Rattle.std.specs.Prelude.{slice_index, slice_index_or};
 ghost use Rattle.std.specs.List.Sorted.{IsStrictlyIncreasing};
-ghost use Rattle.peeling.specs.Decoder.{HasAllSource};
+ghost use Rattle.peeling.specs.Lookups.{HasAllSource};
 ghost use Rattle.fec_session.specs.Kept.{AreValues, source_of};
 
 use crate::Core;

@@ -2,7 +2,8 @@ use Rattle.std.proofs.Common.{◌≡◌, ◌<◌, ◌+◌, ◌∙◌, ℕ, [], t
 use Rattle.std.proofs.lemmas.List.{length-set}
 use Rattle.std.proofs.lemmas.List.Sums.{count_by_more_yes, count_by_more_no}
 use Rattle.sparse_rows.specs.Matrix.{row_of}
-use Rattle.gauss.specs.Equations.{Equation, equation_at}
+use Rattle.gauss.specs.Equations.{Equation}
+use Rattle.gauss.specs.Filling.{equation_at}
 use Rattle.fec_session.specs.Residue.{equation_of, is_open}
 use Rattle.fec_session.specs.Residual.{with_unknowns}
 use Rattle.fec_session.proofs.Gathered.{rows_count, place_inside, place_empty, put_row, closed_row}

@@ -1,7 +1,7 @@
 use Rattle.std.proofs.Common.{◌≡◌, take, map}
 use Rattle.sparse_rows.specs.Matrix.{row_of}
 use Rattle.sparse_rows.specs.Closure.{flagged, outside}
-use Rattle.gauss.specs.Equations.{equation_at, with_equation}
+use Rattle.gauss.specs.Filling.{equation_at, with_equation}
 use Rattle.fec_session.specs.Residue.{place}
 use Rattle.fec_session.specs.Residual.{with_unknowns}
 use Rattle.fec_session.proofs.residue.put_unknowns.Given as goal

@@ -1,5 +1,5 @@
 use Rattle.std.proofs.Common.{[], length, true≢false, refl, sym, ap, ◌∙◌, subst}
-use Rattle.peeling.specs.Decoder.{HasAllSource}
+use Rattle.peeling.specs.Lookups.{HasAllSource}
 use Rattle.fec_session.specs.Block.{Block}
 use Rattle.fec_session.specs.Determines.{Determines}
 use Rattle.fec_session.specs.declared.outcome.Outcome.TheVariants as outcome

@@ -4,7 +4,7 @@ use Rattle.std.specs.List.Sorted.{IsStrictlyIncreasing}
 use Rattle.std.proofs.lemmas.Bool.{false_from_ne_true}
 use Rattle.sparse_rows.specs.Closure.{flagged}
 use Rattle.sparse_rows.specs.Codeword.{symbol_at}
-use Rattle.peeling.specs.Decoder.{HasAllSource}
+use Rattle.peeling.specs.Lookups.{HasAllSource}
 use Rattle.fec_session.specs.Kept.{AreValues, HasSymbols, values_of}
 use Rattle.fec_session.specs.Residue.{completed}
 use Rattle.fec_session.proofs.Residues.{completed_known}
