@@ -1,0 +1,3 @@
+pub mod LeastPrefix
+pub mod ZeroArrivals
+pub mod Laws
