@@ -11,7 +11,8 @@ use Rattle.clap.specs.declared.parser.matches.ArgMatches.{ArgMatches}
 use Rattle.std.specs.Borrow.{Bor}
 use Rattle.clap.proofs.WalkLemmas.{first_value-rows, list_any-map}
 use Rattle.tool_base.specs.declared.options.OptionRow.{OptionRow}
-use Rattle.tool_base.specs.Items.{Item, Text, is_dashes, items_of, names_once}
+use Rattle.tool_base.specs.Items.{Item, Text, items_of, names_once}
+use Rattle.tool_base.specs.Reading.{is_dashes}
 use Rattle.tool_base.specs.Reading.{Matches, has_plain}
 use Rattle.tool_base.proofs.ClapRules.{is_free, is_plain_app, options_app, raw_rule}
 use Rattle.tool_base.proofs.ClapSound.{clap_sound}

@@ -8,7 +8,8 @@ use Rattle.clap.specs.Walk.{Walk, used}
 use Rattle.clap.specs.Faults.{fault_of, use_fault}
 use Rattle.clap.specs.Simple.{matches_of}
 use Rattle.clap.specs.declared.error.kind.ErrorKind.TheVariants as kind
-use Rattle.tool_base.specs.Items.{Item, Text, after_hyphens, and_item, has_value_part, is_among, is_dashes, is_given, items_from, items_of, name_part, names_once, value_part}
+use Rattle.tool_base.specs.Items.{Item, Text, after_hyphens, and_item, has_value_part, is_among, is_given, items_from, items_of, name_part, names_once, value_part}
+use Rattle.tool_base.specs.Reading.{is_dashes}
 use Rattle.tool_base.proofs.ClapRules.{by_id, fault_is, matches_are, option_rule, options_app, rest_fault, rows_at_end}
 use Rattle.tool_base.proofs.ClapTurns.{idle_name-fault, idle_name-walk, idle_other, idle_value-fault, idle_value-walk, idle_with, long_is, split_name, unknown-fault, waits_flag, waits_other, waits_with}
 use Rattle.tool_base.proofs.ClapUses.{between, ends, last_fits, last_known, next, parts, pending_item, rows_for, settle_gives, settle_takes, settled_at, settling, step, turn, use_gives, use_takes, whole}

@@ -10,11 +10,11 @@ use Rattle.std.proofs.lemmas.Slice.Eq.{bytes_eq-Decides}
 use Rattle.clap.specs.declared.parser.matches.ArgMatches.{ArgMatches}
 use Rattle.loss_patterns.specs.Kinds.{is_colon, loss_named, loss_of}
 use Rattle.tool_base.specs.Items.{Item, Text, is_among, items_of, names_once, value_of}
-use Rattle.tool_base.specs.Options.{Given, CommandOption, given_by, is_value, listed, names_of, options_given, values_fit}
-use Rattle.tool_base.specs.Reading.{HasValues, Matches, given_of, is_plain}
+use Rattle.tool_base.specs.Options.{Given, CommandOption, given_by, is_value, names_of, options_given, values_fit}
+use Rattle.tool_base.specs.Reading.{HasValues, Matches, given_of, is_plain, listed}
 use Rattle.tool_base.specs.declared.options.OptionRow.{OptionRow}
 use Rattle.tool_base.specs.declared.options.ValueKind.{ValueKind}
-use Rattle.tool_base.specs.declared.options.ValueKind.TheVariants.{Number, YesOrNo, CodecWord, LossText}
+use Rattle.tool_base.specs.declared.options.ValueKind.TheVariants.{Number, YesOrNo, CodecWord, LossText, OrderWord}
 use Rattle.tool_base.proofs.PlainItems.{all_plain}
 
 stuck_false : (a b : Bool) (n : ℕ) → is_some (cond ((a && false) && b) (Some n) None) ≡ false
@@ -35,6 +35,7 @@ no_hyphen (Number low high) rest = stuck_false (not (nat_eq (length (45 ∷ rest
 no_hyphen YesOrNo rest = refl
 no_hyphen CodecWord rest = refl
 no_hyphen LossText rest = no_loss rest
+no_hyphen OrderWord rest = refl
 
 value_plain : (v : ValueKind) (text : Text) → is_value v text ≡ true → is_plain text ≡ true
 value_plain v [] e = refl

@@ -6,3 +6,5 @@ pub mod ClapSound
 pub mod ClapTakes
 pub mod ClapFind
 pub mod Fitting
+pub mod HeaderSeeds
+pub mod Readings

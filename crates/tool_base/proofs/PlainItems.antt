@@ -5,7 +5,8 @@ use Rattle.std.specs.List.{list_all, list_any}
 use Rattle.std.specs.Str.{bytes_eq}
 use Rattle.std.proofs.lemmas.Bool.{and_parts, and_from, cases_Bool, not-true, false_from_ne_true, or_from}
 use Rattle.std.proofs.lemmas.Slice.Eq.{bytes_eq-Decides}
-use Rattle.tool_base.specs.Items.{Item, Text, after_hyphen, after_hyphens, and_item, from_name, has_value_part, is_among, is_dashes, is_given, item_named, items_from, name_part, names_once, value_of, value_part}
+use Rattle.tool_base.specs.Items.{Item, Text, after_hyphen, after_hyphens, and_item, from_name, has_value_part, is_among, is_given, item_named, items_from, name_part, names_once, value_of, value_part}
+use Rattle.tool_base.specs.Reading.{is_dashes}
 use Rattle.tool_base.specs.Reading.{has_plain, is_plain}
 
 pub and_item_parts : (n v : Text) (o : Option (List Item)) (items : List Item) → and_item n v o ≡ Some items

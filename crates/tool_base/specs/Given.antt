@@ -13,28 +13,35 @@ use Rattle.loss_patterns.specs.Numbers.{number_in}
 use Rattle.loss_patterns.specs.declared.kind.LossKind.{LossKind}
 use Rattle.loss_patterns.specs.declared.kind.LossKind.TheVariants as loss
 use Rattle.tool_base.specs.Items.{Text}
-use Rattle.tool_base.specs.Options.{Given, codec_of}
+use Rattle.tool_base.specs.Options.{CommandOption, Given, NumberOption, RangeOption, codec_of}
+use Rattle.tool_base.specs.Table.{codec_option, draws_option, loss_option, n1_option, order_option}
+use Rattle.tool_base.specs.Table.{seed_option, width_option}
 use Rattle.tool_base.specs.declared.command.Shape.{Shape}
 
--- the number that is given, where it is one from low to high
-abbrev pub number_given : Text → ℕ → ℕ → Given → Option ℕ
-number_given name low high given = option_and_then (number_in low high) (given name)
+-- the number that is given, where it is one of the option's
+abbrev pub number_given : RangeOption → Given → Option ℕ
+number_given o given = option_and_then (number_in o.low o.high) (given o.name)
 
 -- the number that is given, or the default
-abbrev pub number_or : Text → ℕ → ℕ → ℕ → Given → ℕ
-number_or name low high default given = unwrap_or (number_given name low high given) default
+abbrev pub number_or : NumberOption → Given → ℕ
+number_or o given = unwrap_or (number_given o.range given) o.default
 
 -- whether `yes` is given
-abbrev pub is_yes : Text → Given → Bool
-is_yes name given = option_map_or (λ text. bytes_eq text (codes "yes")) (given name) false
+abbrev pub is_yes : CommandOption → Given → Bool
+is_yes o given = option_map_or (λ text. bytes_eq text (codes "yes")) (given o.name) false
+
+-- whether the order is random: it is unless `sent` is given
+abbrev pub is_random : Given → Bool
+is_random given =
+    option_map_or (λ text. bytes_eq text (codes "random")) (given order_option.name) true
 
 -- the codec that is given, or the staircase
 abbrev pub codec_given : Given → Codec
-codec_given given = unwrap_or (option_and_then codec_of (given (codes "codec"))) Staircase
+codec_given given = unwrap_or (option_and_then codec_of (given codec_option.name)) Staircase
 
 -- the loss that is given, or that of no packet
 abbrev pub loss_given : Given → LossKind
-loss_given given = unwrap_or (option_and_then loss_of (given (codes "loss"))) loss.None
+loss_given given = unwrap_or (option_and_then loss_of (given loss_option.name)) loss.None
 
 -- whether the codec is a grid
 abbrev pub is_grid : Codec → Bool
@@ -45,34 +52,35 @@ is_grid _ = false
 abbrev pub gives_any : List Text → Given → Bool
 gives_any names given = list_any (λ name. is_some (given name)) names
 
--- whether an option is given that the codec excludes; `most` names that of the number of encoding
+-- whether an option is given that the codec excludes; `most` is that of the number of encoding
 -- symbols
-abbrev pub gives_excluded : Text → Given → Bool
+abbrev pub gives_excluded : RangeOption → Given → Bool
 gives_excluded most given =
     if is_grid (codec_given given)
-    then gives_any (codes "n1" ∷ codes "seed" ∷ most ∷ codes "draws" ∷ []) given
-    else gives_any (codes "width" ∷ []) given
+    then gives_any (n1_option.range.name ∷ seed_option.range.name ∷ most.name ∷ draws_option.name
+    ∷ []) given
+    else gives_any (width_option.range.name ∷ []) given
 
 -- the code that is given; none where its codec excludes an option that is given
-abbrev pub shape_of : Text → Given → Option Shape
+abbrev pub shape_of : RangeOption → Given → Option Shape
 shape_of most given = if gives_excluded most given then None
     else Some (record {
       codec = codec_given given;
-      n1 = number_or (codes "n1") 3 10 3 given;
-      seed = number_or (codes "seed") 1 2147483646 1 given;
-      width = number_or (codes "width") 1 65536 10 given;
-      draws = number_given (codes "draws") 0 4294967295 given;
+      n1 = number_or n1_option given;
+      seed = number_or seed_option given;
+      width = number_or width_option given;
+      draws = number_given draws_option given;
     })
 
 -- the number of encoding symbols of k source symbols: that of the grid, or what is given, or half
 -- as many again, at most 65536
-abbrev pub symbols_wanted : Text → Shape → ℕ → Given → ℕ
+abbrev pub symbols_wanted : RangeOption → Shape → ℕ → Given → ℕ
 symbols_wanted most shape k given =
     if is_grid shape.codec then size_2d k shape.width
-    else number_or most 1 65536 (min 65536 (3 * k / 2)) given
+    else unwrap_or (number_given most given) (min 65536 (3 * k / 2))
 
 -- this number, where it is one from k to 65536
-abbrev pub symbols_of : Text → Shape → ℕ → Given → Option ℕ
+abbrev pub symbols_of : RangeOption → Shape → ℕ → Given → Option ℕ
 symbols_of most shape k given =
     let n = symbols_wanted most shape k given in
     if nat_le k n && nat_le n 65536 then Some n else None

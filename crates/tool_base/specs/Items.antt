@@ -1,7 +1,7 @@
 -- The items that words make: each a name and a value, in one word or in two.
 use Rattle.std.specs.Prelude.{ℕ, Bool, not, ◌==◌, ◌&&◌, List, [], ◌∷◌, Option, Some, None, ◌++◌}
 use Rattle.std.specs.Prelude.{find}
-use Rattle.std.specs.Prelude.{if◌then◌else◌, codes, option_map, option_and_then, is_some, true}
+use Rattle.std.specs.Prelude.{if◌then◌else◌, option_map, option_and_then, is_some, true}
 use Rattle.std.specs.List.{before_first, after_first, list_any}
 use Rattle.std.specs.Str.{bytes_eq}
 
@@ -87,7 +87,3 @@ abbrev pub names_once : List Text → List Item → List Item → Bool
 names_once names before [] = true
 names_once names before (i ∷ rest) = is_among names i.name
     && (not (is_given i.name before) && names_once names (before ++ i ∷ []) rest)
-
--- whether the word is `--`
-abbrev pub is_dashes : Text → Bool
-is_dashes word = bytes_eq word (codes "--")

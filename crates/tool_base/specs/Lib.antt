@@ -1,7 +1,11 @@
 pub mod Items
 pub mod Options
+pub mod Table
 pub mod Given
 pub mod Commands
+pub mod Ranges
 pub mod Reading
 pub mod Status
+pub mod ExitCodes
 pub mod BlockCode
+pub mod Laws

@@ -1,5 +1,5 @@
--- Tables of options: the name of each option, and the values that it takes.
-use Rattle.std.specs.Prelude.{Bool, ◌&&◌, ◌||◌, List, [], Option, Some, None, map, true, codes}
+-- Options: the name of each, and the values that it takes; and what words give of some of them.
+use Rattle.std.specs.Prelude.{ℕ, Bool, ◌&&◌, ◌||◌, List, [], Option, Some, None, map, true, codes}
 use Rattle.std.specs.Prelude.{is_some}
 use Rattle.std.specs.Prelude.{if◌then◌else◌, option_and_then}
 use Rattle.std.specs.List.{list_all}
@@ -10,22 +10,58 @@ use Rattle.oti_fields.specs.declared.codec.Codec.TheVariants.{Staircase, Triangl
 use Rattle.loss_patterns.specs.Kinds.{loss_of}
 use Rattle.loss_patterns.specs.Numbers.{number_in}
 use Rattle.tool_base.specs.Items.{Item, Text, items_of, names_once, value_of}
-use Rattle.tool_base.specs.declared.options.OptionRow.{OptionRow}
 use Rattle.tool_base.specs.declared.options.ValueKind.{ValueKind}
 use Rattle.tool_base.specs.declared.options.ValueKind.TheVariants.{CodecWord, LossText, Number}
-use Rattle.tool_base.specs.declared.options.ValueKind.TheVariants.{YesOrNo}
+use Rattle.tool_base.specs.declared.options.ValueKind.TheVariants.{OrderWord, YesOrNo}
 
 -- an option of a command: its name, and the values that it takes
 pub record CommandOption : Type 0 where
   pub name : Text
   pub values : ValueKind
 
+-- an option of this name that takes these values
+abbrev pub takes : Text → ValueKind → CommandOption
+takes name values = record { name = name; values = values }
+
+-- an option whose values are the numbers from low to high
+pub record RangeOption : Type 0 where
+  pub name : Text
+  pub low : ℕ
+  pub high : ℕ
+
+-- an option of this name with these numbers
+abbrev pub numbers : Text → ℕ → ℕ → RangeOption
+numbers name low high = record { name = name; low = low; high = high }
+
+-- it takes these numbers and no other value
+abbrev pub takes_range : RangeOption → CommandOption
+takes_range o = takes o.name (Number o.low o.high)
+
+-- such an option, and the number that stands for it where none is given
+pub record NumberOption : Type 0 where
+  pub range : RangeOption
+  pub default : ℕ
+
+-- an option of this name with these numbers and this default
+abbrev pub numbers_or : Text → ℕ → ℕ → ℕ → NumberOption
+numbers_or name low high default = record { range = numbers name low high; default = default }
+
+-- it takes the numbers of its range
+abbrev pub takes_number : NumberOption → CommandOption
+takes_number o = takes_range o.range
+
+-- the word of a codec
+abbrev pub codec_word : Codec → Text
+codec_word Staircase = codes "staircase"
+codec_word Triangle = codes "triangle"
+codec_word Parity2d = codes "2d"
+
 -- the codec of a word
 abbrev pub codec_of : Text → Option Codec
 codec_of text =
-    if bytes_eq text (codes "staircase") then Some Staircase
-    else if bytes_eq text (codes "triangle") then Some Triangle
-    else if bytes_eq text (codes "2d") then Some Parity2d
+    if bytes_eq text (codec_word Staircase) then Some Staircase
+    else if bytes_eq text (codec_word Triangle) then Some Triangle
+    else if bytes_eq text (codec_word Parity2d) then Some Parity2d
     else None
 
 -- whether the text is one of these values
@@ -34,6 +70,7 @@ is_value (Number low high) text = is_some (number_in low high text)
 is_value YesOrNo text = bytes_eq text (codes "yes") || bytes_eq text (codes "no")
 is_value CodecWord text = is_some (codec_of text)
 is_value LossText text = is_some (loss_of text)
+is_value OrderWord text = bytes_eq text (codes "sent") || bytes_eq text (codes "random")
 
 -- the names of a table
 abbrev pub names_of : List CommandOption → List Text
@@ -59,7 +96,3 @@ options_given options words = option_and_then (λ items.
     if names_once (names_of options) [] items && values_fit options items then Some
     (given_by items) else None)
     (items_of words)
-
--- the option of a row of the program's table
-abbrev pub listed : OptionRow → CommandOption
-listed row = record { name = row.name.now; values = row.values }

@@ -4,22 +4,6 @@ use Rattle.tool_base.specs.declared.status.Status.{Status}
 use Rattle.tool_base.specs.declared.status.Status.TheVariants.{Done, Memory, Usage, ReadFault}
 use Rattle.tool_base.specs.declared.status.Status.TheVariants.{WriteFault, Malformed, Draws, Limit}
 use Rattle.tool_base.specs.declared.status.Status.TheVariants.{Undetermined, NoCodeword, WatchFault}
-use Rattle.tool_base.specs.declared.status.Status.TheVariants.{Unbuilt}
-
--- the exit status
-abbrev pub code_of : Status → ℕ
-code_of Done = 0
-code_of Memory = 1
-code_of Usage = 2
-code_of ReadFault = 3
-code_of WriteFault = 4
-code_of Malformed = 5
-code_of Draws = 6
-code_of Limit = 7
-code_of Undetermined = 8
-code_of NoCodeword = 9
-code_of WatchFault = 10
-code_of Unbuilt = 11
 
 -- the report of a status that goes by nothing else
 abbrev pub fault_text : Status → List ℕ
@@ -35,4 +19,3 @@ fault_text Limit = []
 fault_text Undetermined = []
 fault_text NoCodeword = []
 fault_text WatchFault = codes "fault: watch\n"
-fault_text Unbuilt = codes "fault: unbuilt\n"

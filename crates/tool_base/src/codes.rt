@@ -1,8 +1,12 @@
-// The code of a source block of a file.
-ghost use Rattle.std.specs.Prelude.{◌≡◌, ◌≤◌, ◌<◌, length, slice_index, Some, None, IfOk};
+// The code of a source block, of a file or by itself.
+ghost use Rattle.std.specs.Prelude.{◌≡◌, ◌≢◌, ◌≤◌, ◌<◌, length, slice_index, Some, None, IfOk};
+ghost use Rattle.parity_2d.specs.Grid.{size_2d};
+ghost use Rattle.oti_fields.specs.declared.codec.Codec.TheVariants.{Parity2d};
 ghost use Rattle.packet_file.specs.Header.{source_counts};
 ghost use Rattle.packet_file.specs.Packets.{block_symbols};
-ghost use Rattle.tool_base.specs.BlockCode.{block_matrix, limit_by, seed_field};
+ghost use Rattle.tool_base.specs.BlockCode.{block_matrix, limit_by, matrix_by, seed_field};
+ghost use Rattle.tool_base.specs.BlockCode.{shape_matrix};
+ghost use Rattle.tool_base.specs.Ranges.{IsShapeInRange};
 
 use crate::Shape;
 use oti_fields::Codec;
@@ -14,7 +18,8 @@ use triangle::triangle;
 
 /// The code of block i of a file, and how many draws its matrix took, 0 for a grid. The draws may
 /// be as many as are given, or else 64 for each of the N1*k + 2*(n - k) entries of the block and
-/// 65,536 more. `DrawLimit` comes exactly where the matrix takes more.
+/// 65,536 more. `DrawLimit` comes only where the matrix takes more,
+/// and where it does nothing else comes but want of memory.
 pub fn block_code(
     alloc: Global,
     h: &Header,
@@ -33,13 +38,68 @@ pub fn block_code(
     let k = h.source_count(i);
     let n = h.symbol_count(i);
     let oti = h.oti();
-    let n1 = oti.n1m3 as u32 + 3;
+    code_by(alloc, h.codec(), oti.n1m3 as u32 + 3, oti.seed, draws, k, n)
+}
+
+/// The code of a block of k source and n encoding symbols of this shape, and how many draws its
+/// matrix took, 0 for a grid. The draws may be as many as the shape says, or else 64 for each of
+/// the N1*k + 2*(n - k) entries and 65,536 more. `DrawLimit` comes only where the matrix takes
+/// more.
+pub fn shape_code(alloc: Global, shape: &Shape, k: u32, n: u32) -> Result<Built, BuildRefusal>
+    requires shape { IsShapeInRange shape.now }
+    requires some { 1 ≤ k }
+    requires within { k ≤ n }
+    requires most { n ≤ 65536 }
+    requires grid { shape.now.codec ≡ Parity2d → n ≡ size_2d k shape.now.width }
+    ensures ok { IfOk result (λ built. shape_matrix shape.now k n
+        ≡ Some (record { matrix = built.code; draws = built.draws })) }
+    ensures draw_limit { result ≡ Err BuildRefusal.DrawLimit → shape_matrix shape.now k n ≡ None }
+    ensures source { IfOk result (λ built. built.code.k ≡ k) }
+    ensures symbols { IfOk result (λ built. built.code.n ≡ n) }
+{
+    code_by(
+        alloc,
+        shape.codec,
+        shape.n1,
+        shape.seed_field(),
+        shape.draws,
+        k,
+        n,
+    )
+}
+
+// The code that a codec gives a block of k source and n encoding symbols. `field` is the seed of
+// the generator, or the width of the grid.
+fn code_by(
+    alloc: Global,
+    codec: Codec,
+    n1: u32,
+    field: u32,
+    draws: Option<u32>,
+    k: u32,
+    n: u32,
+) -> Result<Built, BuildRefusal>
+    requires some { 1 ≤ k }
+    requires within { k ≤ n }
+    requires most { n ≤ 65536 }
+    requires least { 3 ≤ n1 }
+    requires greatest { n1 ≤ 10 }
+    requires field_some { 1 ≤ field }
+    requires seed { codec ≢ Parity2d → field ≤ 2147483646 }
+    requires grid { codec ≡ Parity2d → n ≡ size_2d k field }
+    ensures ok { IfOk result (λ built. matrix_by codec n1 field draws k n
+        ≡ Some (record { matrix = built.code; draws = built.draws })) }
+    ensures draw_limit { result ≡ Err BuildRefusal.DrawLimit
+        → matrix_by codec n1 field draws k n ≡ None }
+    ensures source { IfOk result (λ built. built.code.k ≡ k) }
+    ensures symbols { IfOk result (λ built. built.code.n ≡ n) }
+{
     let limit = limit_of(draws, n1, k, n);
-    match h.codec() {
-        Codec::Staircase => staircase(alloc, k, n, n1, oti.seed, limit),
-        Codec::Triangle => triangle(alloc, k, n, n1, oti.seed, limit),
+    match codec {
+        Codec::Staircase => staircase(alloc, k, n, n1, field, limit),
+        Codec::Triangle => triangle(alloc, k, n, n1, field, limit),
         Codec::Parity2d => Ok(Built {
-            code: parity_2d(alloc, k, oti.seed)?,
+            code: parity_2d(alloc, k, field)?,
             draws: 0,
         }),
     }

@@ -1,13 +1,19 @@
 // The commands and their options.
 ghost use Rattle.std.specs.Prelude.{◌≡◌, IfSome, map};
-ghost use Rattle.tool_base.specs.Options.{listed};
-ghost use Rattle.tool_base.specs.Reading.{given_of};
-ghost use Rattle.tool_base.specs.Commands.{IsInRange, decode_of, decode_options, encode_of};
-ghost use Rattle.tool_base.specs.Commands.{encode_options, lose_of, lose_options, show_of};
-ghost use Rattle.tool_base.specs.Commands.{show_options};
+ghost use Rattle.tool_base.specs.Reading.{given_of, listed};
+ghost use Rattle.tool_base.specs.Commands.{decode_of, decode_options, encode_of};
+ghost use Rattle.tool_base.specs.Ranges.{IsInRange};
+ghost use Rattle.tool_base.specs.Commands.{encode_options, lose_of, lose_options, perf_of};
+ghost use Rattle.tool_base.specs.Commands.{perf_options, show_of, show_options};
 
-use crate::given::{is_yes, loss_given, number_given, number_or, shape_given, symbols_given};
-use crate::options::{OptionRow, ValueKind};
+use crate::given::{
+    is_random, is_yes, loss_given, number_given, number_or, shape_given, symbols_given,
+};
+use crate::options::OptionRow;
+use crate::table::{
+    BLOCK, CODEC, DRAWS, EARLY, K, LOSS, MAX_N, N, N1, ORDER, PACKETS, PERF_SYMBOL, RUN_SEED, RUNS,
+    SEED, SYMBOL, WIDTH,
+};
 use clap::ArgMatches;
 use loss_patterns::LossKind;
 use oti_fields::Codec;
@@ -17,7 +23,8 @@ use oti_fields::Codec;
 pub struct Shape {
     /// The codec.
     pub codec: Codec,
-    /// How many rows a source symbol is in, from 3 to 10. For a grid 3.
+    /// N1, from 3 to 10: a source symbol takes min(N1, n - k) turns at being put into a row. For a
+    /// grid 3.
     pub n1: u32,
     /// The seed of the generator, from 1 to 2,147,483,646. For a grid 1.
     pub seed: u32,
@@ -64,6 +71,25 @@ pub enum Command {
         /// How many packets may be read, at most 16,777,216.
         packets: u32,
     },
+    /// Sends a block that is made from a number, with losses, and decodes what arrives.
+    Perf {
+        /// The code.
+        shape: Shape,
+        /// The length of a symbol in bytes, from 1 to 65,535.
+        symbol: u32,
+        /// The number of source symbols, from 1 to 65,536.
+        k: u32,
+        /// The number of encoding symbols, from `k` to 65,536.
+        n: u32,
+        /// Which packets are lost.
+        loss: LossKind,
+        /// Whether packets are sent in a random order; else in that of their numbers.
+        random: bool,
+        /// The number of runs, from 1 to 1000.
+        runs: u32,
+        /// The seed of all draws but the code's, from 1 to 2,147,483,646.
+        run_seed: u32,
+    },
 }
 
 // The options of `encode`.
@@ -71,14 +97,14 @@ pub fn encode_options() -> [OptionRow; 8]
     ensures { map listed result ≡ encode_options }
 {
     [
-        OptionRow::new("codec", ValueKind::CodecWord),
-        OptionRow::new("symbol", ValueKind::Number(1, 65_535)),
-        OptionRow::new("n1", ValueKind::Number(3, 10)),
-        OptionRow::new("seed", ValueKind::Number(1, 2_147_483_646)),
-        OptionRow::new("width", ValueKind::Number(1, 65_536)),
-        OptionRow::new("block", ValueKind::Number(1, 65_536)),
-        OptionRow::new("max-n", ValueKind::Number(1, 65_536)),
-        OptionRow::new("draws", ValueKind::Number(0, u32::MAX)),
+        CODEC,
+        SYMBOL.row(),
+        N1.row(),
+        SEED.row(),
+        WIDTH.row(),
+        BLOCK.row(),
+        MAX_N.row(),
+        DRAWS.row(),
     ]
 }
 
@@ -88,12 +114,12 @@ pub fn read_encode(given: &ArgMatches) -> Option<Command>
     ensures value { result ≡ encode_of (given_of given.now) }
     ensures in_range { IfSome result IsInRange }
 {
-    let shape = shape_given(given, "max-n")?;
-    let block = number_or(given, "block", 1, 65_536, 1000);
-    let max_n = symbols_given(given, "max-n", &shape, block)?;
+    let shape = shape_given(given, &MAX_N)?;
+    let block = number_or(given, &BLOCK);
+    let max_n = symbols_given(given, &MAX_N, &shape, block)?;
     Some(Command::Encode {
         shape,
-        symbol: number_or(given, "symbol", 1, 65_535, 1024),
+        symbol: number_or(given, &SYMBOL),
         block,
         max_n,
     })
@@ -103,11 +129,7 @@ pub fn read_encode(given: &ArgMatches) -> Option<Command>
 pub fn decode_options() -> [OptionRow; 3]
     ensures { map listed result ≡ decode_options }
 {
-    [
-        OptionRow::new("draws", ValueKind::Number(0, u32::MAX)),
-        OptionRow::new("early", ValueKind::YesOrNo),
-        OptionRow::new("packets", ValueKind::Number(0, 16_777_216)),
-    ]
+    [DRAWS.row(), EARLY, PACKETS.row()]
 }
 
 // The `decode` that is given.
@@ -116,9 +138,9 @@ pub fn read_decode(given: &ArgMatches) -> Command
     ensures in_range { IsInRange result }
 {
     Command::Decode {
-        draws: number_given(given, "draws", 0, u32::MAX),
-        early: is_yes(given, "early"),
-        packets: number_or(given, "packets", 0, 16_777_216, 16_777_216),
+        draws: number_given(given, &DRAWS),
+        early: is_yes(given, &EARLY),
+        packets: number_or(given, &PACKETS),
     }
 }
 
@@ -126,11 +148,7 @@ pub fn read_decode(given: &ArgMatches) -> Command
 pub fn lose_options() -> [OptionRow; 3]
     ensures { map listed result ≡ lose_options }
 {
-    [
-        OptionRow::new("loss", ValueKind::LossText),
-        OptionRow::new("seed", ValueKind::Number(1, 2_147_483_646)),
-        OptionRow::new("packets", ValueKind::Number(0, 16_777_216)),
-    ]
+    [LOSS, SEED.row(), PACKETS.row()]
 }
 
 // The `lose` that is given.
@@ -140,8 +158,8 @@ pub fn read_lose(given: &ArgMatches) -> Command
 {
     Command::Lose {
         loss: loss_given(given),
-        seed: number_or(given, "seed", 1, 2_147_483_646, 1),
-        packets: number_or(given, "packets", 0, 16_777_216, 16_777_216),
+        seed: number_or(given, &SEED),
+        packets: number_or(given, &PACKETS),
     }
 }
 
@@ -149,7 +167,7 @@ pub fn read_lose(given: &ArgMatches) -> Command
 pub fn show_options() -> [OptionRow; 1]
     ensures { map listed result ≡ show_options }
 {
-    [OptionRow::new("packets", ValueKind::Number(0, 16_777_216))]
+    [PACKETS.row()]
 }
 
 // The `show` that is given.
@@ -158,6 +176,47 @@ pub fn read_show(given: &ArgMatches) -> Command
     ensures in_range { IsInRange result }
 {
     Command::Show {
-        packets: number_or(given, "packets", 0, 16_777_216, 16_777_216),
+        packets: number_or(given, &PACKETS),
     }
+}
+
+// The options of `perf`.
+pub fn perf_options() -> [OptionRow; 12]
+    ensures { map listed result ≡ perf_options }
+{
+    [
+        CODEC,
+        PERF_SYMBOL.row(),
+        N1.row(),
+        SEED.row(),
+        WIDTH.row(),
+        DRAWS.row(),
+        K.row(),
+        N.row(),
+        LOSS,
+        ORDER,
+        RUNS.row(),
+        RUN_SEED.row(),
+    ]
+}
+
+// The `perf` that is given. None where the codec excludes an option that is given, or where there
+// are fewer encoding symbols than source symbols or too many.
+pub fn read_perf(given: &ArgMatches) -> Option<Command>
+    ensures value { result ≡ perf_of (given_of given.now) }
+    ensures in_range { IfSome result IsInRange }
+{
+    let shape = shape_given(given, &N)?;
+    let k = number_or(given, &K);
+    let n = symbols_given(given, &N, &shape, k)?;
+    Some(Command::Perf {
+        shape,
+        symbol: number_or(given, &PERF_SYMBOL),
+        k,
+        n,
+        loss: loss_given(given),
+        random: is_random(given),
+        runs: number_or(given, &RUNS),
+        run_seed: number_or(given, &RUN_SEED),
+    })
 }

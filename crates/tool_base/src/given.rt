@@ -2,53 +2,64 @@
 ghost use Rattle.std.specs.Prelude.{◌≡◌, ◌≤◌, ◌∷◌, [], IfSome};
 ghost use Rattle.parity_2d.specs.Grid.{size_2d};
 ghost use Rattle.oti_fields.specs.declared.codec.Codec.TheVariants.{Parity2d};
-ghost use Rattle.loss_patterns.specs.Kinds.{IsLoss};
-ghost use Rattle.tool_base.specs.Reading.{given_of};
-ghost use Rattle.tool_base.specs.Commands.{IsShapeInRange};
-ghost use Rattle.tool_base.specs.Given.{codec_given, gives_any, gives_excluded, is_grid, is_yes};
-ghost use Rattle.tool_base.specs.Given.{loss_given, number_given, number_or, shape_of, symbols_of};
-ghost use Rattle.tool_base.specs.Given.{symbols_wanted};
+ghost use Rattle.loss_patterns.specs.Ranges.{IsLoss};
+ghost use Rattle.tool_base.specs.Reading.{given_of, listed, numbered, ranged};
+ghost use Rattle.tool_base.specs.Ranges.{IsShapeInRange};
+ghost use Rattle.tool_base.specs.Given.{codec_given, gives_any, gives_excluded, is_grid, is_random};
+ghost use Rattle.tool_base.specs.Given.{is_yes, loss_given, number_given, number_or, shape_of};
+ghost use Rattle.tool_base.specs.Given.{symbols_of, symbols_wanted};
 
 use crate::Shape;
-use crate::options::read_codec;
+use crate::options::{NumberRow, OptionRow, RangeRow, read_codec};
+use crate::table::{CODEC, DRAWS, LOSS, N1, ORDER, SEED, WIDTH};
 use clap::ArgMatches;
 use loss_patterns::{LossKind, read_loss, read_number};
 use oti_fields::Codec;
 use parity_2d::size_2d;
 
-// The number that is given, where it is one from `low` to `high`.
-pub fn number_given(given: &ArgMatches, name: &str, low: u32, high: u32) -> Option<u32>
-    ensures value { result ≡ number_given name.now low high (given_of given.now) }
-    ensures low { IfSome result (λ n. low ≤ n) }
-    ensures high { IfSome result (λ n. n ≤ high) }
+// The number that is given, where it is one of the option's.
+pub fn number_given(given: &ArgMatches, option: &RangeRow) -> Option<u32>
+    ensures value { result ≡ number_given (ranged option.now) (given_of given.now) }
+    ensures low { IfSome result (λ n. option.now.low ≤ n) }
+    ensures high { IfSome result (λ n. n ≤ option.now.high) }
 {
-    match given.get_str(name) {
-        Some(text) => read_number(text.as_bytes(), low, high),
+    match given.get_str(option.name) {
+        Some(text) => read_number(text.as_bytes(), option.low, option.high),
         None => None,
     }
 }
 
 // The number that is given, or the default.
-pub fn number_or(given: &ArgMatches, name: &str, low: u32, high: u32, default: u32) -> u32
-    requires low { low ≤ default }
-    requires high { default ≤ high }
-    ensures value { result ≡ number_or name.now low high default (given_of given.now) }
-    ensures low { low ≤ result }
-    ensures high { result ≤ high }
+pub fn number_or(given: &ArgMatches, option: &NumberRow) -> u32
+    requires low { option.now.range.low ≤ option.now.default }
+    requires high { option.now.default ≤ option.now.range.high }
+    ensures value { result ≡ number_or (numbered option.now) (given_of given.now) }
+    ensures low { option.now.range.low ≤ result }
+    ensures high { result ≤ option.now.range.high }
 {
-    match number_given(given, name, low, high) {
+    match number_given(given, &option.range) {
         Some(number) => number,
-        None => default,
+        None => option.default,
     }
 }
 
 // Whether `yes` is given.
-pub fn is_yes(given: &ArgMatches, name: &str) -> bool
-    ensures { result ≡ is_yes name.now (given_of given.now) }
+pub fn is_yes(given: &ArgMatches, option: &OptionRow) -> bool
+    ensures { result ≡ is_yes (listed option.now) (given_of given.now) }
 {
-    match given.get_str(name) {
+    match given.get_str(option.name) {
         Some(text) => text == "yes",
         None => false,
+    }
+}
+
+// Whether the order is random: it is unless `sent` is given.
+pub fn is_random(given: &ArgMatches) -> bool
+    ensures { result ≡ is_random (given_of given.now) }
+{
+    match given.get_str(ORDER.name) {
+        Some(text) => text == "random",
+        None => true,
     }
 }
 
@@ -56,7 +67,7 @@ pub fn is_yes(given: &ArgMatches, name: &str) -> bool
 fn codec_given(given: &ArgMatches) -> Codec
     ensures { result ≡ codec_given (given_of given.now) }
 {
-    match given.get_str("codec") {
+    match given.get_str(CODEC.name) {
         Some(text) => match read_codec(text) {
             Some(codec) => codec,
             None => Codec::Staircase,
@@ -70,7 +81,7 @@ pub fn loss_given(given: &ArgMatches) -> LossKind
     ensures value { result ≡ loss_given (given_of given.now) }
     ensures in_range { IsLoss result }
 {
-    match given.get_str("loss") {
+    match given.get_str(LOSS.name) {
         Some(text) => match read_loss(text) {
             Some(loss) => loss,
             None => LossKind::None,
@@ -96,21 +107,24 @@ fn gives(given: &ArgMatches, name: &str) -> bool
     given.get_str(name).is_some()
 }
 
-// Whether an option is given that the codec excludes. `most` names that of the number of encoding
+// Whether an option is given that the codec excludes. `most` is that of the number of encoding
 // symbols.
-fn gives_excluded(given: &ArgMatches, most: &str) -> bool
-    ensures { result ≡ gives_excluded most.now (given_of given.now) }
+fn gives_excluded(given: &ArgMatches, most: &RangeRow) -> bool
+    ensures { result ≡ gives_excluded (ranged most.now) (given_of given.now) }
 {
     if is_grid(codec_given(given)) {
-        gives(given, "n1") || gives(given, "seed") || gives(given, most) || gives(given, "draws")
+        gives(given, N1.range.name)
+            || gives(given, SEED.range.name)
+            || gives(given, most.name)
+            || gives(given, DRAWS.name)
     } else {
-        gives(given, "width")
+        gives(given, WIDTH.range.name)
     }
 }
 
 // The code that is given. None where its codec excludes an option that is given.
-pub fn shape_given(given: &ArgMatches, most: &str) -> Option<Shape>
-    ensures value { result ≡ shape_of most.now (given_of given.now) }
+pub fn shape_given(given: &ArgMatches, most: &RangeRow) -> Option<Shape>
+    ensures value { result ≡ shape_of (ranged most.now) (given_of given.now) }
     ensures in_range { IfSome result IsShapeInRange }
 {
     if gives_excluded(given, most) {
@@ -118,20 +132,20 @@ pub fn shape_given(given: &ArgMatches, most: &str) -> Option<Shape>
     }
     Some(Shape {
         codec: codec_given(given),
-        n1: number_or(given, "n1", 3, 10, 3),
-        seed: number_or(given, "seed", 1, 2_147_483_646, 1),
-        width: number_or(given, "width", 1, 65_536, 10),
-        draws: number_given(given, "draws", 0, u32::MAX),
+        n1: number_or(given, &N1),
+        seed: number_or(given, &SEED),
+        width: number_or(given, &WIDTH),
+        draws: number_given(given, &DRAWS),
     })
 }
 
 // The number of encoding symbols of k source symbols: what the grid makes of them, or what is given
 // for `most`, or by default half as many again. None where it isn't from k to 65,536.
-pub fn symbols_given(given: &ArgMatches, most: &str, shape: &Shape, k: u32) -> Option<u32>
+pub fn symbols_given(given: &ArgMatches, most: &RangeRow, shape: &Shape, k: u32) -> Option<u32>
     requires wide { 1 ≤ shape.now.width }
     requires some { 1 ≤ k }
     requires few { k ≤ 65536 }
-    ensures value { result ≡ symbols_of most.now shape.now k (given_of given.now) }
+    ensures value { result ≡ symbols_of (ranged most.now) shape.now k (given_of given.now) }
     ensures least { IfSome result (λ n. k ≤ n) }
     ensures most { IfSome result (λ n. n ≤ 65536) }
     ensures grid { IfSome result (λ n. shape.now.codec ≡ Parity2d → n ≡ size_2d k shape.now.width) }
@@ -145,17 +159,17 @@ pub fn symbols_given(given: &ArgMatches, most: &str, shape: &Shape, k: u32) -> O
 }
 
 // The number of encoding symbols of k source symbols, whatever it is.
-fn symbols_wanted(given: &ArgMatches, most: &str, shape: &Shape, k: u32) -> u64
+fn symbols_wanted(given: &ArgMatches, most: &RangeRow, shape: &Shape, k: u32) -> u64
     requires wide { 1 ≤ shape.now.width }
     requires some { 1 ≤ k }
     requires few { k ≤ 65536 }
-    ensures value { result ≡ symbols_wanted most.now shape.now k (given_of given.now) }
+    ensures value { result ≡ symbols_wanted (ranged most.now) shape.now k (given_of given.now) }
     ensures grid { shape.now.codec ≡ Parity2d → result ≡ size_2d k shape.now.width }
 {
     if is_grid(shape.codec) {
         return size_2d(k, shape.width);
     }
-    match number_given(given, most, 1, 65_536) {
+    match number_given(given, most) {
         Some(n) => n as u64,
         None => (3 * k as u64 / 2).min(65_536),
     }

@@ -1,10 +1,12 @@
 // The options that words give, found by clap and tested by a table.
-ghost use Rattle.std.specs.Prelude.{◌≡◌, ◌<◌, IfOk, Option, drop, length, map, option_map, true};
+ghost use Rattle.std.specs.Prelude.{◌≡◌, ◌<◌, IfOk, Option, Some, drop, length, map, option_map};
+ghost use Rattle.std.specs.Prelude.{true};
 ghost use Rattle.std.specs.List.{list_all, list_any};
 ghost use Rattle.std.specs.Option.{option_map_or};
-ghost use Rattle.tool_base.specs.Items.{is_dashes};
-ghost use Rattle.tool_base.specs.Options.{codec_of, is_value, listed, options_given};
-ghost use Rattle.tool_base.specs.Reading.{Matches, given_of};
+ghost use Rattle.tool_base.specs.Reading.{is_dashes};
+ghost use Rattle.tool_base.specs.Options.{codec_of, codec_word, is_value, options_given};
+ghost use Rattle.tool_base.specs.Options.{takes_number, takes_range};
+ghost use Rattle.tool_base.specs.Reading.{Matches, given_of, listed, numbered, ranged};
 
 use clap::error::ErrorKind;
 use clap::{Arg, ArgAction, ArgMatches, Command};
@@ -24,6 +26,8 @@ pub enum ValueKind {
     CodecWord,
     // The text of a loss.
     LossText,
+    // `sent` or `random`.
+    OrderWord,
 }
 
 impl ValueKind {
@@ -36,7 +40,20 @@ impl ValueKind {
             ValueKind::YesOrNo => text == "yes" || text == "no",
             ValueKind::CodecWord => read_codec(text).is_some(),
             ValueKind::LossText => read_loss(text).is_some(),
+            ValueKind::OrderWord => text == "sent" || text == "random",
         }
+    }
+}
+
+/// The word of a codec, as the words of a command have it.
+pub fn codec_word(codec: Codec) -> &'static str
+    ensures value { result.now ≡ codec_word codec }
+    ensures read { codec_of result.now ≡ Some codec }
+{
+    match codec {
+        Codec::Staircase => "staircase",
+        Codec::Triangle => "triangle",
+        Codec::Parity2d => "2d",
     }
 }
 
@@ -63,12 +80,39 @@ pub struct OptionRow {
     pub values: ValueKind,
 }
 
-impl OptionRow {
-    // An option of this name that takes these values.
-    pub const fn new(name: &'static str, values: ValueKind) -> OptionRow
-        ensures { result ≡ record { name = name.entry; values = values } }
+// An option whose values are the numbers from `low` to `high`.
+#[derive(Clone, Copy, Debug)]
+pub struct RangeRow {
+    pub name: &'static str,
+    pub low: u32,
+    pub high: u32,
+}
+
+impl RangeRow {
+    // The row of a table that takes these numbers.
+    pub fn row(&self) -> OptionRow
+        ensures { listed result ≡ takes_range (ranged self.now) }
     {
-        OptionRow { name, values }
+        OptionRow {
+            name: self.name,
+            values: ValueKind::Number(self.low, self.high),
+        }
+    }
+}
+
+// Such an option, and the number that stands for it where none is given.
+#[derive(Clone, Copy, Debug)]
+pub struct NumberRow {
+    pub range: RangeRow,
+    pub default: u32,
+}
+
+impl NumberRow {
+    // The row of a table that takes the numbers of the range.
+    pub fn row(&self) -> OptionRow
+        ensures { listed result ≡ takes_number (numbered self.now) }
+    {
+        self.range.row()
     }
 }
 

@@ -1,6 +1,7 @@
 // How a run ends.
 ghost use Rattle.std.specs.Prelude.{◌≡◌};
-ghost use Rattle.tool_base.specs.Status.{code_of, fault_text};
+ghost use Rattle.tool_base.specs.Status.{fault_text};
+ghost use Rattle.tool_base.specs.ExitCodes.{code_of};
 
 /// How a run ends. The numbers are the exit statuses of the program.
 #[derive(Clone, Copy, Debug, PartialEq, Eq)]
@@ -27,8 +28,6 @@ pub enum Status {
     NoCodeword = 9,
     /// The watch failed.
     WatchFault = 10,
-    /// The words or the input ask for something that isn't built yet.
-    Unbuilt = 11,
 }
 
 impl Status {
@@ -51,7 +50,6 @@ impl Status {
             Status::ReadFault => "fault: read\n",
             Status::WriteFault => "fault: write\n",
             Status::WatchFault => "fault: watch\n",
-            Status::Unbuilt => "fault: unbuilt\n",
             Status::Done
             | Status::Malformed
             | Status::Draws

@@ -182,6 +182,119 @@ fn a_grid_has_the_size_of_its_width_and_block(rt: HostRuntime) -> Result<(), Fai
     )
 }
 
+// A `perf` of the defaults but for the code and the numbers of symbols.
+const fn perf(shape: Shape, k: u32, n: u32) -> Option<Command> {
+    Some(Command::Perf {
+        shape,
+        symbol: 16,
+        k,
+        n,
+        loss: LossKind::None,
+        random: true,
+        runs: 1,
+        run_seed: 1,
+    })
+}
+
+#[test]
+fn perf_has_defaults(rt: HostRuntime) -> Result<(), Fail> {
+    let alloc = rt.alloc();
+    assert_eq!(rt; read(alloc, &["perf"])?, perf(STAIRCASE, 1000, 1500));
+    assert_eq!(rt; read(alloc, &["perf", "--k=3"])?, perf(STAIRCASE, 3, 4));
+    let words = ["perf", "--k", "65536", "--order=random"];
+    assert_eq!(rt;
+        read(alloc, words.as_slice())?,
+        perf(STAIRCASE, 65_536, 65_536)
+    );
+    Ok(())
+}
+
+#[test]
+fn each_option_of_perf_is_read(rt: HostRuntime) -> Result<(), Fail> {
+    let words = [
+        "perf",
+        "--codec=triangle",
+        "--symbol=65535",
+        "--n1=10",
+        "--seed=2147483646",
+        "--draws=0",
+        "--k=1",
+        "--n=65536",
+        "--loss=burst:5:1000",
+        "--order=sent",
+        "--runs=1000",
+        "--run-seed=2147483646",
+    ];
+    let shape = Shape {
+        codec: Codec::Triangle,
+        n1: 10,
+        seed: 2_147_483_646,
+        width: 10,
+        draws: Some(0),
+    };
+    let wanted = Command::Perf {
+        shape,
+        symbol: 65_535,
+        k: 1,
+        n: 65_536,
+        loss: LossKind::Burst(5, 1000),
+        random: false,
+        runs: 1000,
+        run_seed: 2_147_483_646,
+    };
+    assert_eq!(rt; read(rt.alloc(), words.as_slice())?, Some(wanted));
+    Ok(())
+}
+
+#[test]
+fn a_grid_of_perf_has_the_size_of_its_width_and_k(rt: HostRuntime) -> Result<(), Fail> {
+    let words = ["perf", "--codec=2d", "--width=3", "--k=5"];
+    let shape = Shape {
+        codec: Codec::Parity2d,
+        width: 3,
+        ..STAIRCASE
+    };
+    assert_eq!(rt; read(rt.alloc(), words.as_slice())?, perf(shape, 5, 10));
+    check_usage(
+        &rt,
+        rt.alloc(),
+        &[
+            &["perf", "--codec=2d", "--k=65536"],
+            &["perf", "--codec=2d", "--n=10"],
+            &["perf", "--codec=2d", "--n1=3"],
+            &["perf", "--codec=2d", "--seed=1"],
+            &["perf", "--codec=2d", "--draws=1"],
+        ],
+    )
+}
+
+#[test]
+fn values_that_perf_does_not_take_are_usage(rt: HostRuntime) -> Result<(), Fail> {
+    check_usage(
+        &rt,
+        rt.alloc(),
+        &[
+            &["perf", "--order=other"],
+            &["perf", "--order="],
+            &["perf", "--runs=0"],
+            &["perf", "--runs=1001"],
+            &["perf", "--k=0"],
+            &["perf", "--k=65537"],
+            &["perf", "--k=3", "--n=2"],
+            &["perf", "--n=65537"],
+            &["perf", "--run-seed=0"],
+            &["perf", "--run-seed=2147483647"],
+            &["perf", "--width=3"],
+            &["perf", "--loss=all"],
+            &["perf", "--symbol=0"],
+            &["perf", "--symbol=65536"],
+            &["perf", "--max-n=10"],
+            &["perf", "--packets=1"],
+            &["encode", "--runs=1"],
+        ],
+    )
+}
+
 #[test]
 fn words_that_are_no_command_are_usage(rt: HostRuntime) -> Result<(), Fail> {
     check_usage(
@@ -298,10 +411,53 @@ fn statuses_have_their_numbers_and_texts(rt: HostRuntime) {
         (Status::Undetermined, 8, ""),
         (Status::NoCodeword, 9, ""),
         (Status::WatchFault, 10, "fault: watch\n"),
-        (Status::Unbuilt, 11, "fault: unbuilt\n"),
     ];
     for (status, code, text) in cases {
         assert_eq!(rt; status.code(), code);
         assert_eq!(rt; status.fault_text(), text);
     }
+}
+
+// How many draws the code of 3 source and 7 encoding symbols takes within a limit.
+fn draws_within(alloc: Global, limit: u32) -> Result<u64, BuildRefusal> {
+    let shape = Shape {
+        draws: Some(limit),
+        ..STAIRCASE
+    };
+    Ok(shape_code(alloc, &shape, 3, 7)?.draws)
+}
+
+#[test]
+fn a_limit_of_draws_is_kept_exactly(rt: HostRuntime) -> Result<(), Fail> {
+    assert_eq!(rt; draws_within(rt.alloc(), 11), Err(BuildRefusal::DrawLimit));
+    assert_eq!(rt; draws_within(rt.alloc(), 12), Ok(12));
+    Ok(())
+}
+
+#[test]
+fn a_shape_has_the_code_of_its_codec(rt: HostRuntime) -> Result<(), Fail> {
+    let alloc = rt.alloc();
+    let triangle = Shape {
+        codec: Codec::Triangle,
+        ..STAIRCASE
+    };
+    let grid = Shape {
+        codec: Codec::Parity2d,
+        width: 3,
+        ..STAIRCASE
+    };
+    let built = shape_code(alloc, &STAIRCASE, 3, 7)?;
+    assert_eq!(rt; (built.code.entries(), built.draws), (16, 12));
+    let built = shape_code(alloc, &triangle, 3, 7)?;
+    assert_eq!(rt; (built.code.entries(), built.draws), (18, 14));
+    let built = shape_code(alloc, &grid, 5, 10)?;
+    assert_eq!(rt; (built.code.entries(), built.draws), (15, 0));
+    Ok(())
+}
+
+#[test]
+fn codecs_have_their_words(rt: HostRuntime) {
+    assert_eq!(rt; codec_word(Codec::Staircase), "staircase");
+    assert_eq!(rt; codec_word(Codec::Triangle), "triangle");
+    assert_eq!(rt; codec_word(Codec::Parity2d), "2d");
 }

@@ -1,11 +1,12 @@
 // What the words of a command line ask for.
 ghost use Rattle.std.specs.Prelude.{◌≡◌, ◌<◌, IfOk, IfSome, drop, length, map};
-ghost use Rattle.tool_base.specs.Commands.{IsInRange, command_after, command_of, command_word_of};
+ghost use Rattle.tool_base.specs.Commands.{command_after, command_of, command_word_of};
+ghost use Rattle.tool_base.specs.Ranges.{IsInRange};
 
 use crate::Command;
 use crate::command::{
-    decode_options, encode_options, lose_options, read_decode, read_encode, read_lose, read_show,
-    show_options,
+    decode_options, encode_options, lose_options, perf_options, read_decode, read_encode,
+    read_lose, read_perf, read_show, show_options,
 };
 use crate::options::read_options;
 use fec_base::{NoMemory, Words};
@@ -54,6 +55,7 @@ enum CommandWord {
     Decode,
     Lose,
     Show,
+    Perf,
 }
 
 // The command that the word names.
@@ -71,6 +73,9 @@ fn read_command_word(word: &str) -> Option<CommandWord>
     }
     if word == "show" {
         return Some(CommandWord::Show);
+    }
+    if word == "perf" {
+        return Some(CommandWord::Perf);
     }
     None
 }
@@ -97,6 +102,10 @@ fn read_after(alloc: Global, word: CommandWord, words: &[&str]) -> Result<Option
         },
         CommandWord::Show => match read_options(alloc, &show_options(), words)? {
             Some(given) => Ok(Some(read_show(&given))),
+            None => Ok(None),
+        },
+        CommandWord::Perf => match read_options(alloc, &perf_options(), words)? {
+            Some(given) => Ok(read_perf(&given)),
             None => Ok(None),
         },
     }
