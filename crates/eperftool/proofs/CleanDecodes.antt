@@ -89,7 +89,7 @@ module _ (header_one : HeaderIsOne) (packet_one : PacketIsOne) (h : HeaderFields
   pub decided : (ended : Status) → IsDecodeRun limit early most before after watch watch_now ended → OrMemory ended (Decided limit early most before.input after.input watch watch_now ended)
   decided status.Done run = inr (run.done refl).0
   decided status.Memory run = inl refl
-  decided status.Usage run = absurd (run.ends.0 refl)
+  decided status.Usage run = absurd (run.ends refl)
   decided status.ReadFault run = inl (refused_memory status.ReadFault run tt)
   decided status.WriteFault run = absurd (let cut = run.cut refl in not_cut cut.0.object cut.0.text cut.1)
   decided status.Malformed run = inl (refused_memory status.Malformed run tt)
@@ -98,7 +98,6 @@ module _ (header_one : HeaderIsOne) (packet_one : PacketIsOne) (h : HeaderFields
   decided status.Undetermined run = inr (run.undecided (inr refl)).0
   decided status.NoCodeword run = inr (run.undecided (inl refl)).0
   decided status.WatchFault run = inl (refused_memory status.WatchFault run tt)
-  decided status.Unbuilt run = absurd (run.ends.1 refl)
 
 -- ---- by packets that are chosen from an object's file
 

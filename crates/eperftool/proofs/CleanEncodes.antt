@@ -98,4 +98,3 @@ module _ (o : EncodeOptions) (object : List ℕ) (code : ℕ → Matrix) (before
   encoded status.Undetermined run = absurd (no_end status.Undetermined (λ none. none) (λ done. cc) (λ cut. cc) run.ends)
   encoded status.NoCodeword run = absurd (no_end status.NoCodeword (λ none. none) (λ done. cc) (λ cut. cc) run.ends)
   encoded status.WatchFault run = inl (refused_memory status.WatchFault run tt)
-  encoded status.Unbuilt run = absurd (no_end status.Unbuilt (λ none. none) (λ done. cc) (λ cut. cc) run.ends)

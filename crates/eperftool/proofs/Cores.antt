@@ -3,7 +3,8 @@ use Rattle.std.proofs.Common.{◌≡◌, ◌≢◌, ℕ, zero, suc, ◌<◌, ◌
 use Rattle.sparse_rows.specs.Matrix.{Matrix}
 use Rattle.sparse_rows.specs.Codeword.{positions}
 use Rattle.sparse_rows.specs.Closure.{closure}
-use Rattle.peeling.specs.Decoder.{Decoder, HasAllSource}
+use Rattle.peeling.specs.Decoder.{Decoder}
+use Rattle.peeling.specs.Lookups.{HasAllSource}
 use Rattle.peeling.specs.Stands.{Receives, StandsFor}
 use Rattle.fec_session.specs.Session.{AreNew}
 use Rattle.packet_file.specs.Header.{HeaderFields, source_counts}

@@ -3,7 +3,8 @@ use Rattle.std.proofs.Common.{◌↔◌, ℕ, ◌<◌, Bool, List, length, slice
 use Rattle.fec_base.specs.Told.{Telling}
 use Rattle.sparse_rows.specs.Matrix.{Matrix}
 use Rattle.sparse_rows.specs.Codeword.{Arrival}
-use Rattle.peeling.specs.Decoder.{Decoder, HasAllSource}
+use Rattle.peeling.specs.Decoder.{Decoder}
+use Rattle.peeling.specs.Lookups.{HasAllSource}
 use Rattle.peeling.specs.Stands.{StandsFor}
 use Rattle.fec_session.specs.Session.{ComeOut}
 use Rattle.fec_session.specs.declared.outcome.Outcome.{Outcome}

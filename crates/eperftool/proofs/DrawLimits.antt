@@ -13,7 +13,8 @@ use Rattle.triangle.specs.Triangle.{chain, link_count, triangle_matrix, with_dra
 use Rattle.oti_fields.specs.declared.codec.Codec.{Codec}
 use Rattle.oti_fields.specs.declared.codec.Codec.TheVariants.{Staircase, Triangle, Parity2d}
 use Rattle.packet_file.specs.Header.{HeaderFields, symbol_count}
-use Rattle.tool_base.specs.BlockCode.{draw_limit, matrix_by, row_weight}
+use Rattle.tool_base.specs.BlockCode.{row_weight}
+use Rattle.eperftool.proofs.MatrixSizes.{by_codec, most_draws}
 use Rattle.eperftool.specs.Codes.{matrix_of}
 
 -- ---- two values that are alike, if both are there
@@ -157,14 +158,14 @@ module _ (k n n1 seed limit other : ℕ) where
 
 -- ---- the matrix of a block
 
-block_alike : (codec : Codec) (h : HeaderFields) (draws other : Option ℕ) (k : ℕ) → Alike SameCounted (matrix_by codec h draws k) (matrix_by codec h other k)
-block_alike Staircase h draws other k = staircase_alike k (symbol_count h k) (row_weight h) h.oti.seed (draw_limit h draws k) (draw_limit h other k)
-block_alike Triangle h draws other k = triangle_alike k (symbol_count h k) (row_weight h) h.oti.seed (draw_limit h draws k) (draw_limit h other k)
+block_alike : (codec : Codec) (h : HeaderFields) (draws other : Option ℕ) (k : ℕ) → Alike SameCounted (by_codec codec h draws k) (by_codec codec h other k)
+block_alike Staircase h draws other k = staircase_alike k (symbol_count h k) (row_weight h) h.oti.seed (most_draws h draws k) (most_draws h other k)
+block_alike Triangle h draws other k = triangle_alike k (symbol_count h k) (row_weight h) h.oti.seed (most_draws h draws k) (most_draws h other k)
 block_alike Parity2d h draws other k = refl
 
 -- is one under all limits under which there is one
 pub matrix_one : (h : HeaderFields) (draws other : Option ℕ) (k : ℕ) (m n : Matrix) → matrix_of h draws k ≡ Some m → matrix_of h other k ≡ Some n → n ≡ m
 matrix_one h draws other k m n first second =
     alike_is (λ (a b : Matrix). b ≡ a) (matrix_of h draws k) (matrix_of h other k) m n
-    (alike_map SameCounted (λ (a b : Matrix). b ≡ a) (λ (c : CountedMatrix). c.matrix) (λ (c : CountedMatrix). c.matrix) (λ a b is. ap (λ (c : CountedMatrix). c.matrix) is) (matrix_by h.codec h draws k) (matrix_by h.codec h other k) (block_alike h.codec h draws other k))
+    (alike_map SameCounted (λ (a b : Matrix). b ≡ a) (λ (c : CountedMatrix). c.matrix) (λ (c : CountedMatrix). c.matrix) (λ a b is. ap (λ (c : CountedMatrix). c.matrix) is) (by_codec h.codec h draws k) (by_codec h.codec h other k) (block_alike h.codec h draws other k))
     first second

@@ -24,6 +24,8 @@ pub mod Determining
 pub mod Taking
 pub mod Running
 pub mod PassRuns
+pub mod PerfRuns
+pub mod OnePerf
 pub mod MatrixSizes
 pub mod OneFirstNullWord
 pub mod OneOutcome

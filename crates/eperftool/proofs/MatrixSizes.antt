@@ -11,7 +11,7 @@ use Rattle.triangle.specs.Triangle.{chain, link_count, triangle_matrix, with_dra
 use Rattle.oti_fields.specs.declared.codec.Codec.{Codec}
 use Rattle.oti_fields.specs.declared.codec.Codec.TheVariants.{Staircase, Triangle, Parity2d}
 use Rattle.packet_file.specs.Header.{HeaderFields, symbol_count, symbols_by}
-use Rattle.tool_base.specs.BlockCode.{draw_limit, matrix_by, row_weight}
+use Rattle.tool_base.specs.BlockCode.{limit_by, matrix_by, row_weight}
 use Rattle.eperftool.specs.Codes.{matrix_of}
 
 -- ---- what holds of a value, if there is one
@@ -120,12 +120,20 @@ module _ (k n : ℕ) where
 
 -- ---- the matrix of a block
 
-sized_by : (codec : Codec) (h : HeaderFields) (draws : Option ℕ) (k : ℕ) → h.codec ≡ codec → IfSome (matrix_by codec h draws k) (SizedCounted k (symbol_count h k))
-sized_by Staircase h draws k is = staircase_sized k (symbol_count h k) (row_weight h) h.oti.seed (draw_limit h draws k)
-sized_by Triangle h draws k is = triangle_sized k (symbol_count h k) (row_weight h) h.oti.seed (draw_limit h draws k)
+-- by a codec
+abbrev pub by_codec : Codec → HeaderFields → Option ℕ → ℕ → Option CountedMatrix
+by_codec codec h draws k = matrix_by codec (row_weight h) h.oti.seed draws k (symbol_count h k)
+
+-- and how many draws it may take
+abbrev pub most_draws : HeaderFields → Option ℕ → ℕ → ℕ
+most_draws h draws k = limit_by draws (row_weight h) k (symbol_count h k)
+
+sized_by : (codec : Codec) (h : HeaderFields) (draws : Option ℕ) (k : ℕ) → h.codec ≡ codec → IfSome (by_codec codec h draws k) (SizedCounted k (symbol_count h k))
+sized_by Staircase h draws k is = staircase_sized k (symbol_count h k) (row_weight h) h.oti.seed (most_draws h draws k)
+sized_by Triangle h draws k is = triangle_sized k (symbol_count h k) (row_weight h) h.oti.seed (most_draws h draws k)
 sized_by Parity2d h draws k is = (refl, ap (λ (codec : Codec). symbols_by codec h.oti k) (sym is))
 
 -- has k source symbols, and as many encoding symbols as the header gives it
 pub matrix_sized : (h : HeaderFields) (draws : Option ℕ) (k : ℕ) (m : Matrix) → matrix_of h draws k ≡ Some m → IsSized k (symbol_count h k) m
 matrix_sized h draws k m is = if_is (IsSized k (symbol_count h k)) (matrix_of h draws k) m
-    (if_map (IsSized k (symbol_count h k)) (λ (c : CountedMatrix). c.matrix) (matrix_by h.codec h draws k) (sized_by h.codec h draws k refl)) is
+    (if_map (IsSized k (symbol_count h k)) (λ (c : CountedMatrix). c.matrix) (by_codec h.codec h draws k) (sized_by h.codec h draws k refl)) is

@@ -2,7 +2,7 @@
 use Rattle.std.proofs.Common.{◌≢◌, ℕ, ◌≤◌, Bool, List, Option, inl, inr, arith}
 use Rattle.sparse_rows.specs.Matrix.{Matrix}
 use Rattle.packet_file.specs.Header.{HeaderFields}
-use Rattle.packet_file.specs.Reading.{TakesAtMost}
+use Rattle.packet_file.specs.Taking.{TakesAtMost}
 use Rattle.eperftool.specs.DecodeRun.{FailsAtPackets, RefusesDecode}
 use Rattle.eperftool.specs.Outside.{Hearing, Stream, stream}
 use Rattle.eperftool.specs.Receiving.{RefusesOpening}

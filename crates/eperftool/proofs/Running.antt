@@ -1,5 +1,5 @@
 -- What a run does, by what its words ask for.
-use Rattle.std.proofs.Common.{◌≡◌, Bool, List, [], ℕ, true, false, inl, inr, refl, arith, ⊎_elim, Option, Some, None}
+use Rattle.std.proofs.Common.{◌≡◌, List, [], ℕ, inl, inr, refl, arith, ⊎_elim, Option, Some, None}
 use Rattle.std.proofs.KnownBytes.{Consumes-nil, Keeps-refl}
 use Rattle.std.specs.Io.KnownBytes.{Consumes}
 use Rattle.packet_pass.specs.declared.kind.Pass.{Pass}
@@ -10,23 +10,18 @@ use Rattle.tool_base.specs.declared.command.Command.{Command}
 use Rattle.tool_base.specs.declared.command.Command.TheVariants as command
 use Rattle.tool_base.specs.declared.status.Status.{Status}
 use Rattle.tool_base.specs.declared.status.Status.TheVariants as status
-use Rattle.eperftool.specs.Options.{is_later}
 use Rattle.eperftool.specs.Outside.{Hearing, Stream, Streams}
 use Rattle.eperftool.specs.PassRun.{IsPassRun}
-use Rattle.eperftool.specs.Run.{IsCommandRun, IsRun, IsUnbuiltRun, IsUsageRun}
+use Rattle.eperftool.specs.Run.{IsCommandRun, IsRun, IsUsageRun}
 use Rattle.eperftool.specs.Written.{IsTold}
 use Rattle.eperftool.specs.declared.refusal.Refusal.TheVariants.{Memory}
 use Rattle.eperftool.proofs.PassRuns.{ends_refused}
 use Rattle.eperftool.proofs.Telling.{keeps_same}
 
-module _ (words : List (List ℕ)) (before after : Streams) (watch watch_now : Hearing) (ended : Status) where
-  -- words that ask for what is built mean a command or none
-  pub runs_asked : is_later words ≡ false → (asked : Option Command) → command_of words ≡ asked → IsCommandRun asked before after watch watch_now ended → IsRun words before after watch watch_now ended
-  runs_asked built asked means run = rw built (rw means run)
-
-  -- and others don't
-  pub runs_later : is_later words ≡ true → IsUnbuiltRun before after ended → IsRun words before after watch watch_now ended
-  runs_later later run = rw later run
+-- what the command of the words does is what a run of them does
+pub runs_asked : (words : List (List ℕ)) (before after : Streams) (watch watch_now : Hearing) (ended : Status) (asked : Option Command)
+    → command_of words ≡ asked → IsCommandRun asked before after watch watch_now ended → IsRun words before after watch watch_now ended
+runs_asked words before after watch watch_now ended asked means run = rw means run
 
 module _ (before : Streams) (report : Stream) where
   abbrev after : Streams
@@ -35,10 +30,6 @@ module _ (before : Streams) (report : Stream) where
   -- words that mean no command
   pub runs_usage : (ended : Status) → ended ≡ status.Usage → IsTold (fault_text status.Usage) before.report report → IsUsageRun before after ended
   runs_usage ended is told = rw is (record { ends = inl refl; input = refl; output = refl; told = told })
-
-  -- words that ask for what isn't built
-  pub runs_unbuilt : (ended : Status) → ended ≡ status.Unbuilt → IsTold (fault_text status.Unbuilt) before.report report → IsUnbuiltRun before after ended
-  runs_unbuilt ended is told = rw is (record { ends = refl; input = refl; output = refl; told = told })
 
   -- without memory for the words a pass takes nothing
   pass_out : (pass : Pass) (most : ℕ) (ended : Status) → ended ≡ status.Memory → IsTold (fault_text status.Memory) before.report report → IsPassRun pass most before after ended
@@ -65,7 +56,18 @@ module _ (before : Streams) (report : Stream) where
     refused = λ refused. (Memory, refl, inl ([], Consumes-nil before.input.bytes, omega arith, keeps_same watch.told), told);
     unwritten = λ done cut. Keeps-refl before.output.bytes;
     taken = ([], Consumes-nil before.input.bytes);
-    ends = ((λ (other : status.Memory ≡ status.Usage). cc), (λ (other : status.Memory ≡ status.Unbuilt). cc));
+    ends = λ (other : status.Memory ≡ status.Usage). cc;
   })
   runs_out watch (Some (command.Lose loss seed most)) ended is told = pass_out (Lose loss seed) most ended is told
   runs_out watch (Some (command.Show most)) ended is told = pass_out Show most ended is told
+  runs_out watch (Some (command.Perf shape symbol k n loss random runs seed)) ended is told = rw is (record {
+    input = refl;
+    tries = record {
+      done = λ other. absurd (cc other);
+      cut = λ other. absurd (cc other);
+      memory = λ same. inl (Keeps-refl before.output.bytes);
+      refused = λ refused. (Memory, refl, tt, told);
+      unwritten = λ refused apart. Keeps-refl before.output.bytes;
+      ends = inl tt;
+    };
+  })

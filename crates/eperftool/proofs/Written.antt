@@ -2,8 +2,7 @@
 use Rattle.std.proofs.Common.{◌≡◌, List, [], ◌++◌, ℕ, Option, sym, ap, ◌∙◌, subst, refl, append_assoc, append-nil}
 use Rattle.std.specs.Io.KnownBytes.{Appends}
 use Rattle.std.proofs.KnownBytes.{Appends-trans}
-use Rattle.fec_base.specs.Bytes.{AppendsFront}
-use Rattle.eperftool.specs.Written.{AppendsPart}
+use Rattle.fec_base.specs.Bytes.{AppendsFront, AppendsPart}
 use Rattle.eperftool.specs.Staged.{PassesOn, PassesPart}
 use Rattle.eperftool.proofs.Passing.{cut_longer, packets_cut, end_cut, end_whole}
 

@@ -147,4 +147,4 @@ pub record IsDecodeRun (draws : Option ℕ) (early : Bool) (most : ℕ) (before 
   -- what was taken is a front of the input
   pub taken : TakesSome before.input.bytes after.input.bytes
   -- no status is left but these
-  pub ends : (ended ≢ status.Usage) × (ended ≢ status.Unbuilt)
+  pub ends : ended ≢ status.Usage

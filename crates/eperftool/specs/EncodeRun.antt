@@ -12,7 +12,8 @@ use Rattle.eperftool.specs.File.{IsEncoding}
 use Rattle.eperftool.specs.Options.{header_for}
 use Rattle.eperftool.specs.Outside.{Stream, Streams}
 use Rattle.eperftool.specs.Refusals.{IsRefused, refusal_status, refusal_text}
-use Rattle.eperftool.specs.Written.{AppendsPart, IsCut, IsTold, TakesSome}
+use Rattle.eperftool.specs.Written.{IsCut, IsTold, TakesSome}
+use Rattle.fec_base.specs.Bytes.{AppendsPart}
 use Rattle.eperftool.specs.declared.options.EncodeOptions.{EncodeOptions}
 use Rattle.eperftool.specs.declared.refusal.Refusal.{Refusal}
 use Rattle.eperftool.specs.declared.refusal.Refusal.TheVariants.{Draws, File, Memory, Watch}

@@ -1,4 +1,5 @@
 pub mod Options
+pub mod Asking
 pub mod Outside
 pub mod Written
 pub mod Codes
@@ -10,10 +11,12 @@ pub mod Refusals
 pub mod EncodeRun
 pub mod DecodeRun
 pub mod PassRun
+pub mod PerfRun
 pub mod Run
 pub mod Laws
 pub mod RoundTrip
 pub mod RunLaws
+pub mod PerfLaws
 pub mod BuiltCodes
 pub mod Made
 pub mod Object

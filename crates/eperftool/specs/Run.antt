@@ -1,5 +1,5 @@
 -- What a run does.
-use Rattle.std.specs.Prelude.{Bool, List, None, Option, Some, true, false, ℕ, ◌≡◌, ◌≢◌, ◌⊎◌}
+use Rattle.std.specs.Prelude.{Bool, List, None, Option, Some, ℕ, ◌≡◌, ◌≢◌, ◌⊎◌}
 use Rattle.packet_pass.specs.declared.kind.Pass.TheVariants.{Lose, Show}
 use Rattle.tool_base.specs.Commands.{command_of}
 use Rattle.tool_base.specs.Status.{fault_text}
@@ -7,9 +7,9 @@ use Rattle.tool_base.specs.declared.command.Command.{Command}
 use Rattle.tool_base.specs.declared.status.Status.{Status}
 use Rattle.eperftool.specs.DecodeRun.{IsDecodeRun}
 use Rattle.eperftool.specs.EncodeRun.{IsEncodeRun}
-use Rattle.eperftool.specs.Options.{is_later}
 use Rattle.eperftool.specs.Outside.{Hearing, Streams}
 use Rattle.eperftool.specs.PassRun.{IsPassRun}
+use Rattle.eperftool.specs.PerfRun.{IsPerfRun}
 use Rattle.eperftool.specs.Written.{IsTold}
 use Rattle.tool_base.specs.declared.command.Command.TheVariants as command
 use Rattle.tool_base.specs.declared.status.Status.TheVariants as status
@@ -18,14 +18,6 @@ use Rattle.tool_base.specs.declared.status.Status.TheVariants as status
 pub record IsUsageRun (before after : Streams) (ended : Status) : Type 0 where
   -- the words are usage, if there was memory to read them
   pub ends : (ended ≡ status.Usage) ⊎ (ended ≡ status.Memory)
-  -- nothing was read or written, and the report says so
-  pub input : after.input ≡ before.input
-  pub output : after.output ≡ before.output
-  pub told : IsTold (fault_text ended) before.report after.report
-
--- what a run does whose words ask for what isn't built yet
-pub record IsUnbuiltRun (before after : Streams) (ended : Status) : Type 0 where
-  pub ends : ended ≡ status.Unbuilt
   -- nothing was read or written, and the report says so
   pub input : after.input ≡ before.input
   pub output : after.output ≡ before.output
@@ -43,18 +35,18 @@ IsCommandRun (Some (command.Lose loss seed most)) before after watch watch_now e
     IsPassRun (Lose loss seed) most before after ended
 IsCommandRun (Some (command.Show most)) before after watch watch_now ended =
     IsPassRun Show most before after ended
-
--- what a run does, by whether the words ask for what comes later, and by the command that they mean
-abbrev pub IsAskedRun : Bool → Option Command → Streams → Streams → Hearing → Hearing → Status
-    → Type 0
-IsAskedRun true asked before after watch watch_now ended = IsUnbuiltRun before after ended
-IsAskedRun false asked before after watch watch_now ended =
-    IsCommandRun asked before after watch watch_now ended
+IsCommandRun (Some (command.Perf shape symbol k n loss random runs seed)) before after watch
+    watch_now ended = IsPerfRun (record {
+      shape = shape;
+      k = k;
+      n = n;
+      plan = record { symbol = symbol; loss = loss; random = random; runs = runs; seed = seed };
+    }) before after ended
 
 -- what a run does: what the words ask for
 abbrev pub IsRun : List (List ℕ) → Streams → Streams → Hearing → Hearing → Status → Type 0
 IsRun words before after watch watch_now ended =
-    IsAskedRun (is_later words) (command_of words) before after watch watch_now ended
+    IsCommandRun (command_of words) before after watch watch_now ended
 
 -- the words mean no `decode`
 abbrev pub AsksNoDecode : List (List ℕ) → Type 0

@@ -1,4 +1,4 @@
--- Bytes that wait for a sink.
+-- Inside: bytes that wait for a sink.
 use Rattle.std.specs.Prelude.{◌≡◌, ℕ, List, ◌++◌, Option}
 use Rattle.std.specs.Io.KnownBytes.{Appends}
 

@@ -9,11 +9,6 @@ use Rattle.eperftool.specs.Outside.{Stream}
 abbrev pub TakesSome : Option (List ℕ) → Option (List ℕ) → Type 0
 TakesSome left left_now = (bytes : List ℕ) × Consumes left left_now bytes
 
--- a part of the bytes, from their front on, was appended
-abbrev pub AppendsPart : Option (List ℕ) → Option (List ℕ) → List ℕ → Type 0
-AppendsPart held held_now bytes =
-    (part : List ℕ) × (rest : List ℕ) × Appends held held_now part × (bytes ≡ part ++ rest)
-
 -- the report took the text, or a front of it where its count of faults rose
 abbrev pub IsTold : List ℕ → Stream → Stream → Type 0
 IsTold text report report_now = Appends report.bytes report_now.bytes text

@@ -96,7 +96,7 @@ fn finish<K: Sink, R: Sink, W: Watch>(
     ensures unwritten { result.status ≢ Status.Done → result.status ≢ Status.WriteFault
         → Keeps (K.held output.old) (K.held output.new) }
     ensures ends { IsRefused result.status → result.status ≡ Status.Memory }
-    ensures asked { (result.status ≢ Status.Usage) × (result.status ≢ Status.Unbuilt) }
+    ensures asked { result.status ≢ Status.Usage }
     ensures watch { result.watch ≡ received.receiver.watch }
 {
     let Received {
@@ -156,7 +156,7 @@ fn write_outcomes<K: Sink, R: Sink, W: Watch>(
     ensures unwritten { result ≢ Status.Done → result ≢ Status.WriteFault
         → Keeps (K.held output.old) (K.held output.new) }
     ensures ends { IsRefused result → result ≡ Status.Memory }
-    ensures asked { (result ≢ Status.Usage) × (result ≢ Status.Unbuilt) }
+    ensures asked { result ≢ Status.Usage }
 {
     let Ok(mut staging) = Staging::new(alloc, STAGING_LEN) else {
         return refuse(report, Refusal::Memory);

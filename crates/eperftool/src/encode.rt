@@ -2,17 +2,18 @@
 ghost use Rattle.std.specs.Prelude.{◌≡◌, ◌≢◌, ◌≤◌, ◌<◌, ◌⊎◌, ◌++◌, [], ℕ, List, All, length};
 ghost use Rattle.std.specs.Prelude.{vec_len, sum_by, IfOk, IfErr, OnOk, OnErr};
 ghost use Rattle.std.specs.Io.KnownBytes.{Appends, Keeps};
-ghost use Rattle.tool_base.specs.Commands.{IsInRange};
-ghost use Rattle.fec_base.specs.Bytes.{AppendsFront};
+ghost use Rattle.tool_base.specs.Ranges.{IsInRange};
+ghost use Rattle.fec_base.specs.Bytes.{AppendsFront, AppendsPart};
 ghost use Rattle.fec_base.specs.Causes.{HasCause};
 ghost use Rattle.packet_file.specs.Header.{header_bytes};
 ghost use Rattle.eperftool.specs.EncodeRun.{IsEncodeRun, ReadsObject, RefusesEncode};
 ghost use Rattle.eperftool.specs.File.{encode_report, packets};
 ghost use Rattle.eperftool.specs.Made.{AreWords, IsMade, IsReady, RefusesMaking};
-ghost use Rattle.eperftool.specs.Options.{encode_command, header_for};
+ghost use Rattle.eperftool.specs.Options.{header_for};
+ghost use Rattle.eperftool.specs.Asking.{encode_command};
 ghost use Rattle.eperftool.specs.Outside.{seen, stream};
 ghost use Rattle.eperftool.specs.Refusals.{refusal_text};
-ghost use Rattle.eperftool.specs.Written.{AppendsPart, IsCut, IsTold, TakesSome};
+ghost use Rattle.eperftool.specs.Written.{IsCut, IsTold, TakesSome};
 ghost use Rattle.eperftool.specs.declared.refusal.Refusal.TheVariants.{Memory};
 
 use crate::{

@@ -1,6 +1,7 @@
 // Laws over the definitions alone.
 ghost use Rattle.eperftool.specs.Laws.{DecodingIsOne, EncodingIsOne, PacketFileHasNoFault};
 ghost use Rattle.eperftool.specs.Laws.{PacketFileIsOne};
+ghost use Rattle.eperftool.specs.PerfLaws.{CodeIsTried, PerfIsOne};
 ghost use Rattle.eperftool.specs.RoundTrip.{ChosenDecodeRight, ChosenDecodeWithoutNullWords};
 ghost use Rattle.eperftool.specs.RoundTrip.{DecodeUndoesEncode, GivenBackByAll};
 ghost use Rattle.eperftool.specs.RoundTrip.{GivenBackWithoutNullWords, NeverDecodedWrong};
@@ -8,6 +9,7 @@ ghost use Rattle.eperftool.specs.RoundTrip.{NeverToldWrong, OutcomesGoBySet};
 ghost use Rattle.eperftool.specs.RunLaws.{ChosenAreDecoded, EncodedIsDecoded, ObjectIsEncoded};
 ghost use Rattle.eperftool.specs.RunLaws.{PacketFileIsDecoded, PacketFileIsPassed};
 
+use loss_runs::each_run_has_a_result;
 use null_witness::{null_words_follow_the_closure, null_words_show_what_is_open};
 use packet_file::headers_and_packets_have_one_spelling;
 use peeling::closure_is_least;
@@ -157,3 +159,17 @@ pub fn packet_files_are_passed()
 {
     headers_and_packets_have_one_spelling();
 }
+
+/// The options of a `perf` decide its lines: which symbols its runs keep, how each of them ends, and
+/// so the text.
+pub fn one_text_for_each_perf()
+    ensures { PerfIsOne }
+{
+    each_run_has_a_result();
+}
+
+/// A `perf` whose block is within the limit, and whose matrix takes no more draws than it may,
+/// refuses nothing where nothing outside fails: the lines of its runs are written; or memory lacks.
+pub fn codes_are_tried()
+    ensures { CodeIsTried }
+{}

@@ -2,6 +2,7 @@
 //! `run` is its top call, whose contract says what a user gets; `main` hands it the standard
 //! streams. It stands on `tool_base` for the words and for the code of a block, on `packet_file`
 //! for headers and packets, on `packet_pass` for packet files with losses and their lines, on
+//! `loss_runs` for runs of a decoder under losses, on
 //! `fec_session` for codewords and decoders, on `peeling` and `sparse_rows` for definitions that
 //! its contracts cite, and on `fec_base` for the outside.
 #![tactic(auto)]
@@ -15,6 +16,7 @@ mod object;
 mod options;
 mod outcome;
 mod pass_run;
+mod perf;
 mod receive;
 mod refusal;
 mod report;
@@ -27,11 +29,19 @@ pub use decode::decode;
 pub use encode::{Made, STAGING_LEN, encode};
 pub use ending::{Ended, conclude, tell};
 use fec_base::{NoMemory, ProgressWatch, ReadSource, Watch, Words, WriteSink};
-pub use laws::{one_encoding_for_each_object, one_reading_for_each_file};
+pub use laws::{
+    all_packets_give_the_object, chosen_packets_are_decoded, chosen_packets_decode_right,
+    codes_are_tried, decode_undoes_encode, null_words_decide_what_comes_back, objects_are_encoded,
+    one_encoding_for_each_object, one_outcome_for_each_file, one_reading_for_each_file,
+    one_text_for_each_perf, outcomes_go_by_the_set_of_packets, packet_files_are_decoded,
+    packet_files_are_passed, packet_files_have_no_fault, what_is_told_is_of_the_file,
+    what_was_encoded_is_decoded, what_was_encoded_is_never_decoded_wrong,
+};
 pub use object::read_object;
-pub use options::{EncodeOptions, is_later};
+pub use options::{EncodeOptions, PerfOptions};
 pub use outcome::{outcome_status, put_decode_report};
 pub use pass_run::run_pass;
+pub use perf::perf;
 pub use receive::{Received, receive};
 pub use refusal::{Refusal, refuse};
 use report::put_numbered;

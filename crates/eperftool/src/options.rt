@@ -1,10 +1,11 @@
-// What the words of an `encode` say of a file.
+// What the words of an `encode` say of a file, and those of a `perf` of its runs.
 ghost use Rattle.std.specs.Prelude.{◌≡◌, ◌≤◌, IfOk, IfErr, Some};
-ghost use Rattle.tool_base.specs.Commands.{IsInRange};
+ghost use Rattle.tool_base.specs.Ranges.{IsInRange};
 ghost use Rattle.packet_file.specs.Header.{size_fault};
-ghost use Rattle.eperftool.specs.Options.{encode_command, header_for, is_later};
+ghost use Rattle.eperftool.specs.Options.{header_for};
+ghost use Rattle.eperftool.specs.Asking.{encode_command};
 
-use fec_base::Words;
+use loss_runs::RunPlan;
 use oti_fields::Oti;
 use packet_file::{FileFault, Header};
 use tool_base::Shape;
@@ -42,12 +43,12 @@ impl EncodeOptions {
     }
 }
 
-/// Whether the first word is that of a command that isn't built yet.
-pub fn is_later(words: &Words) -> bool
-    ensures { result ≡ is_later words.now }
-{
-    if words.count() == 0 {
-        return false;
-    }
-    words.word(0) == "perf"
+/// The options of a `perf`: the code, the numbers of source and of encoding symbols of its block,
+/// and the runs.
+#[derive(Clone, Copy, Debug, PartialEq, Eq)]
+pub struct PerfOptions {
+    pub shape: Shape,
+    pub k: u32,
+    pub n: u32,
+    pub plan: RunPlan,
 }

@@ -3,7 +3,7 @@ ghost use Rattle.std.specs.Prelude.{◌≡◌, ◌≢◌, ◌≤◌, ◌⊎◌, 
 ghost use Rattle.std.specs.Io.KnownBytes.{Appends};
 ghost use Rattle.fec_base.specs.Bytes.{AppendsFront};
 ghost use Rattle.fec_base.specs.Causes.{HasCause, Rose};
-ghost use Rattle.packet_pass.specs.Pass.{IsPass};
+ghost use Rattle.packet_pass.specs.Ranges.{IsPass};
 ghost use Rattle.eperftool.specs.Outside.{seen};
 ghost use Rattle.eperftool.specs.PassRun.{IsPassRun, pass_report};
 ghost use Rattle.eperftool.specs.Refusals.{numbered};

@@ -4,10 +4,11 @@ ghost use Rattle.std.specs.Prelude.{vec_len, slice_index_or, All, Ok, IfOk, IfEr
 ghost use Rattle.std.specs.Io.KnownBytes.{Consumes, IsAtEnd};
 ghost use Rattle.fec_base.specs.Told.{GrowsTold, KeepsTold};
 ghost use Rattle.sparse_rows.specs.Matrix.{Matrix};
-ghost use Rattle.peeling.specs.Decoder.{Decoder, HasAllSource};
+ghost use Rattle.peeling.specs.Decoder.{Decoder};
+ghost use Rattle.peeling.specs.Lookups.{HasAllSource};
 ghost use Rattle.fec_session.specs.Session.{rebuilt};
 ghost use Rattle.packet_file.specs.Header.{IsHeader, header_bytes};
-ghost use Rattle.packet_file.specs.Reading.{TakesAtMost};
+ghost use Rattle.packet_file.specs.Taking.{TakesAtMost};
 ghost use Rattle.eperftool.specs.BuiltCodes.{AreBlockCodes};
 ghost use Rattle.eperftool.specs.DecodeRun.{FailsAtPackets, RefusesDecode};
 ghost use Rattle.eperftool.specs.Outside.{hearing, stream};

@@ -7,8 +7,11 @@ ghost use Rattle.eperftool.specs.Outside.{hearing, seen};
 ghost use Rattle.eperftool.specs.Run.{AsksNoDecode, IsRun};
 ghost use Rattle.eperftool.specs.declared.refusal.Refusal.{Refusal};
 
-use crate::{EncodeOptions, Ended, Refusal, decode, encode, is_later, refuse, run_pass, tell};
+use crate::{
+    EncodeOptions, Ended, PerfOptions, Refusal, decode, encode, perf, refuse, run_pass, tell,
+};
 use fec_base::{NoMemory, Sink, Source, Watch, Words};
+use loss_runs::RunPlan;
 use packet_pass::Pass;
 use std::alloc::Global;
 use tool_base::{Command, Status, read_words};
@@ -16,15 +19,15 @@ use tool_base::{Command, Status, read_words};
 /// Runs a command: the words say which, the input is read, the output and the report are written,
 /// and the watch comes back.
 ///
-/// Today the commands are `encode`, `decode`, `lose` and `show` (docs/COMMANDS.md). At `Done` the
+/// The commands are `encode`, `decode`, `lose`, `show` and `perf` (docs/COMMANDS.md). At `Done` the
 /// output is the packet file of the whole input, the object that the packets of the input
-/// determine, the packet file without the packets that are lost, or its lines; and the report is
-/// its counts. At `WriteFault` the output has a front of that, or the whole of it where the report
-/// alone failed. An `encode` that ends for want of memory may have written a part of the file,
-/// from its front on. A `lose` or a `show` whose input fails or is no packet file has written the
-/// text of the packets before. At every other status nothing was written to the output. A
-/// `decode` tells the watch, after each packet and before a further byte is read, of each symbol
-/// that this packet makes known.
+/// determine, the packet file without the packets that are lost, or its lines, or the lines of the
+/// runs of a decoder; and the report is its counts. At `WriteFault` the output has a front of that,
+/// or the whole of it where the report alone failed. An `encode` or a `perf` that ends for want of
+/// memory may have written a part of its output, from its front on. A `lose` or a `show` whose
+/// input fails or is no packet file has written the text of the packets before. At every other
+/// status nothing was written to the output. A `decode` tells the watch, after each packet and
+/// before a further byte is read, of each symbol that this packet makes known.
 pub fn run<S: Source, K: Sink, R: Sink>(
     alloc: Global,
     words: &Words,
@@ -47,8 +50,7 @@ pub fn run<S: Source, K: Sink, R: Sink>(
     ensures watch { AsksNoDecode words.now → result.watch ≡ watch }
 
     // Words that mean no command are refused before anything is read.
-    ensures unread { (result.status ≡ Status.Usage) ⊎ (result.status ≡ Status.Unbuilt)
-        → input.new ≡ input.old }
+    ensures unread { result.status ≡ Status.Usage → input.new ≡ input.old }
 {
     run_words(alloc, words, input, output, report, watch)
 }
@@ -71,13 +73,8 @@ fn run_words<S: Source, K: Sink, R: Sink, W: Watch>(
         (hearing (W.told result.watch) (W.faults result.watch)) result.status }
     ensures name { W.name result.watch ≡ W.name watch }
     ensures watch { AsksNoDecode words.now → result.watch ≡ watch }
-    ensures unread { (result.status ≡ Status.Usage) ⊎ (result.status ≡ Status.Unbuilt)
-        → input.new ≡ input.old }
+    ensures unread { result.status ≡ Status.Usage → input.new ≡ input.old }
 {
-    if is_later(words) {
-        let status = tell(report, Status::Unbuilt);
-        return Ended { status, watch };
-    }
     match read_words(alloc, words) {
         Err(NoMemory) => {
             let status = refuse(report, Refusal::Memory);
@@ -130,6 +127,31 @@ fn run_words<S: Source, K: Sink, R: Sink, W: Watch>(
         }
         Ok(Some(Command::Show { packets })) => {
             let status = run_pass(alloc, Pass::Show, packets, input, output, report);
+            Ended { status, watch }
+        }
+        Ok(
+            Some(
+                Command::Perf {
+                    shape,
+                    symbol,
+                    k,
+                    n,
+                    loss,
+                    random,
+                    runs,
+                    run_seed,
+                },
+            ),
+        ) => {
+            let plan = RunPlan {
+                symbol,
+                loss,
+                random,
+                runs,
+                seed: run_seed,
+            };
+            let options = PerfOptions { shape, k, n, plan };
+            let status = perf(alloc, &options, output, report);
             Ended { status, watch }
         }
     }

@@ -1,3 +1,5 @@
+ghost use Rattle.std.specs.Prelude.{◌≤◌};
+
 use crate::run;
 use fec_base::{MemSink, MemSource, QuietWatch, Watch, Words};
 use std::alloc::Global;
@@ -11,6 +13,7 @@ mod faults;
 mod hostile;
 mod many;
 mod passes;
+mod perf;
 mod refused;
 mod told;
 
@@ -53,13 +56,28 @@ fn run_over(
     room: usize,
     report_room: usize,
 ) -> Result<Left, Fail> {
+    run_in_pieces(alloc, words, bytes, stop, room, report_room, 70)
+}
+
+// The same, where no read and no write takes more than `chunk` bytes.
+fn run_in_pieces(
+    alloc: Global,
+    words: &[&str],
+    bytes: &[u8],
+    stop: Option<usize>,
+    room: usize,
+    report_room: usize,
+    chunk: usize,
+) -> Result<Left, Fail>
+    requires { 1 ≤ chunk }
+{
     let mut all = Words::new(alloc);
     for word in words {
         all.push(word)?;
     }
-    let mut input = MemSource::new(alloc, bytes, 200, stop)?;
-    let mut output = MemSink::new(alloc, room, 70)?;
-    let mut report = MemSink::new(alloc, report_room, 1)?;
+    let mut input = MemSource::new(alloc, bytes, chunk, stop)?;
+    let mut output = MemSink::new(alloc, room, chunk)?;
+    let mut report = MemSink::new(alloc, report_room, chunk)?;
     let watch: Box<dyn Watch> = Box::new(alloc, QuietWatch)?;
     let ended = run(alloc, &all, &mut input, &mut output, &mut report, watch);
     Ok(Left {
@@ -472,7 +490,7 @@ fn one_block_of_three_is_undetermined(rt: HostRuntime) -> Result<(), Fail> {
 fn words_that_mean_no_command_are_usage(rt: HostRuntime) -> Result<(), Fail> {
     let usage = "fault: usage\n\
         usage: eperftool encode|decode|lose|show|perf [--name=value ...]\n";
-    let cases: [&[&str]; 15] = [
+    let cases: [&[&str]; 17] = [
         &[],
         &["pack"],
         &["encode", "--symbol=0"],
@@ -488,25 +506,14 @@ fn words_that_mean_no_command_are_usage(rt: HostRuntime) -> Result<(), Fail> {
         &["decode", "--"],
         &["decode", "x"],
         &["decode", "--early", "--packets=3"],
+        &["perf", "--k=3", "--k=3"],
+        &["perf", "--k=8", "--n=7"],
     ];
     for words in cases {
         // The first read of this input would be a fault.
         let left = run_over(rt.alloc(), words, b"01234", Some(0), 200, 200)?;
         assert_eq!(rt; left.report.bytes(), usage.as_bytes());
         assert_eq!(rt; left.status, Status::Usage);
-        assert_eq!(rt; left.output.bytes().len(), 0);
-    }
-    Ok(())
-}
-
-#[test]
-fn commands_that_come_later_are_unbuilt(rt: HostRuntime) -> Result<(), Fail> {
-    let cases: [&[&str]; 2] = [&["perf"], &["perf", "--k=3", "--k=3"]];
-    for words in cases {
-        // The first read of this input would be a fault.
-        let left = run_over(rt.alloc(), words, b"01234", Some(0), 200, 200)?;
-        assert_eq!(rt; left.report.bytes(), b"fault: unbuilt\n".as_slice());
-        assert_eq!(rt; left.status, Status::Unbuilt);
         assert_eq!(rt; left.output.bytes().len(), 0);
     }
     Ok(())

@@ -2,7 +2,7 @@
 ghost use Rattle.std.specs.Prelude.{◌≡◌, ◌≤◌, ◌<◌, ◌++◌, [], ℕ, List, length, slice_index_or, All};
 ghost use Rattle.std.specs.Prelude.{Err, IfOk, OnOk, OnErr};
 ghost use Rattle.std.specs.Io.KnownBytes.{Appends};
-ghost use Rattle.fec_base.specs.Bytes.{AppendsFront};
+ghost use Rattle.fec_base.specs.Bytes.{AppendsFront, AppendsPart};
 ghost use Rattle.fec_base.specs.Causes.{HasCause, Rose};
 ghost use Rattle.oti_fields.specs.Fields.{FitsIdBits};
 ghost use Rattle.packet_file.specs.Header.{header_bytes, source_counts};
@@ -10,7 +10,6 @@ ghost use Rattle.packet_file.specs.Packets.{block_symbols, packet_bytes};
 ghost use Rattle.eperftool.specs.File.{block_packets, packets};
 ghost use Rattle.eperftool.specs.Made.{AreWords, IsReady};
 ghost use Rattle.eperftool.specs.Staged.{PassesOn, PassesPart};
-ghost use Rattle.eperftool.specs.Written.{AppendsPart};
 ghost use Rattle.eperftool.specs.declared.write.WriteRefusal.TheVariants.{Memory, Output};
 
 use crate::{Staging, find_code};

@@ -207,3 +207,23 @@ fn a_decode_cut_at_each_byte_or_failing_there(rt: HostRuntime) -> Result<(), Fai
     }
     Ok(())
 }
+
+#[test]
+fn an_input_that_fails_within_the_third_packet_tells_nothing(rt: HostRuntime) -> Result<(), Fail> {
+    let mut file = Vec::from_slice(rt.alloc(), &STAIRCASE_FILE[..26])?;
+    for esi in [3usize, 4, 0] {
+        assert!(rt; esi < 7);
+        file.extend_from_slice(&STAIRCASE_FILE[26 + 5 * esi..31 + 5 * esi])?;
+    }
+    for chunk in [1usize, 7] {
+        assert!(rt; 1 <= chunk);
+        let outside = Outside {
+            stop: Some(36),
+            ..ample(chunk)
+        };
+        let left = decode(rt.alloc(), &file, outside)?;
+        check(&rt, &left, Status::ReadFault, b"fault: read\n", &[]);
+        check_told(&rt, &left, 0);
+    }
+    Ok(())
+}

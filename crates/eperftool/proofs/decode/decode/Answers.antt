@@ -73,8 +73,5 @@ returns-in-Err-clause-decodes g c =
       refused = λ refused. (c.in-Err.refusal, c.refuse.ensures.status, c.in-Err.ensures.refusal, c.refuse.ensures.told);
       unwritten = λ done cut. Keeps-refl (g.K.Sink.held c.args.output.now);
       taken = c.receive.ensures.taken;
-      ends = (
-        λ (usage : c.refuse.result ≡ status.Usage). no_other c.in-Err.refusal c.refuse.result status.Usage c.refuse.ensures.status usage,
-        λ (unbuilt : c.refuse.result ≡ status.Unbuilt). no_other c.in-Err.refusal c.refuse.result status.Unbuilt c.refuse.ensures.status unbuilt,
-      );
+      ends = λ usage. no_other c.in-Err.refusal c.refuse.result status.Usage c.refuse.ensures.status usage;
     }

@@ -1,0 +1,117 @@
+// Runs of a decoder under losses, and their lines.
+use super::run_over;
+use loss_patterns::read_number;
+use std::alloc::Global;
+use std::process::Abort;
+use std::test::Fail;
+use tool_base::Status;
+
+const CODE_LINE: &str = "code staircase k 3 n 7 entries 16 draws 12\n";
+
+// A `perf` of the code of three and seven, sent in this order under this loss, writes these lines
+// behind that of the code. It reads nothing: the first read of this input would be a fault.
+fn check_runs(
+    rt: &impl Abort,
+    alloc: Global,
+    order: &str,
+    loss: &str,
+    lines: &str,
+) -> Result<(), Fail> {
+    let words = [
+        "perf",
+        "--k=3",
+        "--n=7",
+        "--symbol=1",
+        "--order",
+        order,
+        "--loss",
+        loss,
+    ];
+    let left = run_over(alloc, &words, b"0", Some(0), 300, 100)?;
+    let wanted = format!(in alloc; "{CODE_LINE}{lines}")?;
+    assert_eq!(rt; left.output.bytes(), wanted.as_bytes());
+    assert_eq!(rt; left.report.bytes().len(), 0);
+    assert_eq!(rt; left.status, Status::Done);
+    Ok(())
+}
+
+#[test]
+fn runs_peel_or_are_solved_or_stay_undetermined(rt: HostRuntime) -> Result<(), Fail> {
+    let alloc = rt.alloc();
+    let peeled = "run 1 kept 7 needed 3 peeled\nruns 1 peeled 1 solved 0 undetermined 0\n";
+    check_runs(&rt, alloc, "sent", "none", peeled)?;
+    let solved = "run 1 kept 4 needed none solved\nruns 1 peeled 0 solved 1 undetermined 0\n";
+    check_runs(&rt, alloc, "sent", "first:3", solved)?;
+    let open = "run 1 kept 1 needed none undetermined\nruns 1 peeled 0 solved 0 undetermined 1\n";
+    check_runs(&rt, alloc, "sent", "first:6", open)?;
+    let shuffled = "run 1 kept 7 needed 4 peeled\nruns 1 peeled 1 solved 0 undetermined 0\n";
+    check_runs(&rt, alloc, "random", "none", shuffled)?;
+    Ok(())
+}
+
+#[test]
+fn runs_that_are_refused_write_nothing(rt: HostRuntime) -> Result<(), Fail> {
+    let alloc = rt.alloc();
+    let large = ["perf", "--k=65536", "--symbol=4097"];
+    let left = run_over(alloc, &large, b"0", Some(0), 300, 100)?;
+    assert_eq!(rt;
+        left.report.bytes(),
+        b"fault: limit block-bytes\n".as_slice()
+    );
+    assert_eq!(rt; left.status, Status::Limit);
+    assert_eq!(rt; left.output.bytes().len(), 0);
+    let over = ["perf", "--k=3", "--n=7", "--draws=11"];
+    let left = run_over(alloc, &over, b"0", Some(0), 300, 100)?;
+    assert_eq!(rt; left.report.bytes(), b"fault: draws block 0\n".as_slice());
+    assert_eq!(rt; left.status, Status::Draws);
+    assert_eq!(rt; left.output.bytes().len(), 0);
+    Ok(())
+}
+
+#[test]
+fn the_same_words_write_the_same_lines(rt: HostRuntime) -> Result<(), Fail> {
+    let first = run_over(rt.alloc(), &["perf", "--k=300"], b"", None, 300, 100)?;
+    let second = run_over(rt.alloc(), &["perf", "--k=300"], b"", None, 300, 100)?;
+    assert_eq!(rt; first.status, Status::Done);
+    assert_eq!(rt; first.output.bytes(), second.output.bytes());
+    let lines = first
+        .output
+        .bytes()
+        .iter()
+        .filter(|byte| **byte == b'\n')
+        .count();
+    assert_eq!(rt; lines, 3);
+    Ok(())
+}
+
+// The text is the line of run `run`, which kept all 30,000 symbols and needed from 20,000 of them
+// to all; what follows is given back.
+fn after_run<'a>(rt: &impl Abort, alloc: Global, run: u32, text: &'a str) -> Result<&'a str, Fail> {
+    let head = format!(in alloc; "run {run} kept 30000 needed ")?;
+    let tail = text.strip_prefix(head.as_str()).ok_or("another run")?;
+    let (needed, rest) = tail.split_once(" peeled\n").ok_or("not peeled")?;
+    assert!(rt; read_number(needed.as_bytes(), 20_000, 30_000).is_some());
+    Ok(rest)
+}
+
+#[test]
+fn a_hundred_runs_of_a_large_code_peel(rt: HostRuntime) -> Result<(), Fail> {
+    let alloc = rt.alloc();
+    let words = [
+        "perf",
+        "--k=20000",
+        "--n=30000",
+        "--symbol=16",
+        "--runs=100",
+    ];
+    let left = run_over(alloc, &words, b"", None, 10_000, 100)?;
+    assert_eq!(rt; left.status, Status::Done);
+    let text = str::from_utf8(left.output.bytes())?;
+    let (code, mut rest) = text.split_once('\n').ok_or("no line")?;
+    assert!(rt; code.starts_with("code staircase k 20000 n 30000 entries "));
+    for run in 1..101 {
+        rest = after_run(&rt, alloc, run, rest)?;
+    }
+    assert_eq!(rt; rest, "runs 100 peeled 100 solved 0 undetermined 0\n");
+    Ok(())
+}
