@@ -13,14 +13,23 @@ help:
 demo:
 	@sh demo/run.sh
 
+#   make datagrams          sends a file in datagrams over a link that loses some, on this machine, and rebuilds it
+datagrams: build/eperftool
+	@sh demo/datagrams.sh
+
 #   make test               the gate: proves every crate, tries the must-fail edits, runs the tests and the program
 test:
 	rt ci
 	@! command -v python3 > /dev/null || python3 tools/promises.py
+	@! command -v python3 > /dev/null || python3 tools/trusted.py --check
 
 #   make promises           prints the file and line of each promise of docs/PROMISES.md, and fails where one isn't there
 promises:
 	@python3 tools/promises.py -v
+
+#   make trusted            prints the definitions that a reader must believe, and fails where files mix them with others
+trusted:
+	@python3 tools/trusted.py
 
 #   make build              proves and builds the program, and prints its path: build/eperftool
 build:
@@ -41,9 +50,17 @@ install: build/eperftool
 bench: build/eperftool
 	@bench/run.sh
 
+#   make plots              draws docs/pictures/*.svg from runs of the built program, some minutes; it wants gnuplot
+plots: build/eperftool
+	@bench/plots.sh
+
 #   make fuzz CASES=.. SEED=..  holds the built program against a slow second reading of the pages, on random files
 CASES ?= 2000
 fuzz: build/eperftool
 	@python3 tools/fuzz.py $(CASES) $(SEED)
 
-.PHONY: help demo test promises fuzz build install bench
+#   make faults             meets the built program with faults of the system: reads, writes, pipes, files, memory
+faults: build/eperftool
+	@python3 tools/faults.py
+
+.PHONY: help demo datagrams test promises trusted fuzz faults plots build install bench

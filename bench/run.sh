@@ -144,3 +144,10 @@ measure decode 32000000 some again "$program" decode && back
 echo '  across all blocks'
 mix 3000000
 measure decode 32000000 some again "$program" decode && back
+
+echo 'perf: runs of a decoder on a code of 20,000 source symbols, --n=30000; MB of source'
+: > nothing
+echo '  a hundred runs, symbols of 16 bytes'
+measure perf 32000000 nothing lines "$program" perf --k=20000 --n=30000 --symbol=16 --runs=100
+echo '  five runs, symbols of 1,024 bytes'
+measure perf 102400000 nothing lines "$program" perf --k=20000 --n=30000 --symbol=1024 --runs=5

@@ -1,371 +1,106 @@
 #!/usr/bin/env python3
-"""Holds the built program against a plain, slow second reading of docs/FORMAT.md, docs/CODES.md and docs/COMMANDS.md.
+"""Holds the built program against tools/second_reading.py, a plain second reading of the pages, on random files.
 
     fuzz.py [CASES [SEED]]
 
-Each case is an `encode` of a random object with random words, and a `decode`, a `lose` and a `show` of its packet file
-after packets were lost, repeated, shuffled, changed or cut, or header bytes were changed. Output, report and status have
-to be those of the second reading. A difference is printed with its words and its input in hexadecimal, and ends the run
-with status 1. EPERFTOOL names another program than build/eperftool.
+First come `perf` by hand and the packet files of tools/vectors, and then random cases.
+
+Each case is an `encode` of a random object with random words, and a `decode`, a `lose` and a `show` of its packet
+file after packets were lost, repeated, shuffled, changed or cut, or header bytes were changed; and a `perf` with random
+words. Output, report and status have to be those of the second reading. A difference is printed with its words and its
+input in hexadecimal, and ends the run with status 1. EPERFTOOL names another program than build/eperftool.
 """
+import hashlib
 import os
 import pathlib
 import random
 import subprocess
 import sys
 
+import second_reading as reading
+from second_reading import Ends, Header
+
 PROGRAM = os.environ.get("EPERFTOOL", pathlib.Path(__file__).resolve().parent.parent / "build" / "eperftool")
 
-
-class Ends(Exception):
-    """A run that ends with a status, a report, and what it wrote by then."""
-
-    def __init__(self, status, report, output=b""):
-        super().__init__(report)
-        self.status, self.report, self.output = status, report, output
-
-
-# ---- codes
-
-
-class Draws:
-    def __init__(self, seed, limit):
-        self.state, self.left = seed, limit
-
-    def draw(self, below):
-        if self.left == 0:
-            raise OverflowError
-        self.left -= 1
-        self.state = 16807 * self.state % 2147483647
-        return below * self.state // 2147483647
+# Of `perf` with the code k = 3, n = 7, N1 = 3, seed 1 and symbols of one byte: further words, and the last two lines,
+# which were worked out by hand.
+PERF_BY_HAND = [
+    ({"order": "sent"}, "run 1 kept 7 needed 3 peeled\nruns 1 peeled 1 solved 0 undetermined 0\n"),
+    (
+        {"order": "sent", "loss": "first:3"},
+        "run 1 kept 4 needed none solved\nruns 1 peeled 0 solved 1 undetermined 0\n",
+    ),
+    (
+        {"order": "sent", "loss": "first:6"},
+        "run 1 kept 1 needed none undetermined\nruns 1 peeled 0 solved 0 undetermined 1\n",
+    ),
+    ({"order": "random"}, "run 1 kept 7 needed 4 peeled\nruns 1 peeled 1 solved 0 undetermined 0\n"),
+]
 
 
-def left_side(k, n, n1, draws):
-    rows = [set() for _ in range(n - k)]
-    if not rows:
-        return rows
-    rest = [h % (n - k) for h in range(n1 * k)]
-    for column in range(k):
-        for _ in range(min(n1, n - k)):
-            if any(column not in rows[row] for row in rest):
-                while column in rows[rest[at := draws.draw(len(rest))]]:
-                    pass
-                rows[rest[at]].add(column)
-                rest[at] = rest[0]
-                rest = rest[1:]
-            else:
-                while column in rows[row := draws.draw(n - k)]:
-                    pass
-                rows[row].add(column)
-    for row in rows:
-        if not row:
-            row.add(draws.draw(k))
-        if len(row) == 1 and k >= 2:
-            while (column := draws.draw(k)) in row:
-                pass
-            row.add(column)
-    return rows
-
-
-def matrix(codec, k, n, n1, seed, limit):
-    if codec == 200:
-        width, height = seed, -(-k // seed)
-        grid = [[c for c in range(k) if c // width == i] + [k + i] for i in range(height)]
-        return grid + [[c for c in range(k) if c % width == j] + [k + height + j] for j in range(min(width, k))]
-    if limit is None:
-        limit = 64 * (n1 * k + 2 * (n - k)) + 65536
-    draws = Draws(seed, limit)
-    rows = left_side(k, n, n1, draws)
-    for i, row in enumerate(rows):
-        row.add(k + i)
-        if i:
-            row.add(k + i - 1)
-    if codec == 4:
-        for i in range(1, n - k):
-            j, links = i - 1, 0
-            while links < j:
-                j = draws.draw(j)
-                rows[i].add(k + j)
-                links += 1
-    return [sorted(row) for row in rows]
-
-
-def xor(a, b):
-    return bytes(x ^ y for x, y in zip(a, b))
-
-
-# ---- files
-
-
-def grid_size(k, width):
-    return k + -(-k // width) + min(width, k)
-
-
-class Header:
-    def __init__(self, codec, length, symbol, n1m3, group, block, max_n, seed):
-        self.codec, self.length, self.symbol, self.n1 = codec, length, symbol, n1m3 + 3
-        self.n1m3, self.group, self.block, self.max_n, self.seed = n1m3, group, block, max_n, seed
-
-    def name(self):
-        return {3: "staircase", 4: "triangle", 200: "2d"}[self.codec]
-
-    def spelled(self):
-        return (
-            b"OFPK\x01" + bytes([self.codec, 0, 0]) + self.length.to_bytes(6, "big") + self.symbol.to_bytes(2, "big")
-            + bytes([self.n1m3 << 5 | self.group]) + (self.block << 20 | self.max_n).to_bytes(5, "big")
-            + self.seed.to_bytes(4, "big")
-        )
-
-    def field_fault(self):
-        grid = self.codec == 200
-        faults = [
-            self.symbol == 0, self.group != 1, self.block == 0, self.max_n < self.block, self.max_n > 65536,
-            not grid and not 1 <= self.seed <= 2147483646, grid and self.seed == 0,
-        ]
-        if any(faults):
-            return faults.index(True) + 1
-        return 8 if grid and (self.n1m3 != 0 or self.max_n != grid_size(self.block, self.seed)) else None
-
-    def check_sizes(self):
-        if self.length > 268435456:
-            raise Ends(7, "fault: limit length\n")
-        sources = -(-self.length // self.symbol)
-        count = -(-sources // self.block)
-        if count > 4096:
-            raise Ends(7, "fault: limit blocks\n")
-        large, small = (-(-sources // count), sources // count) if count else (0, 0)
-        first = sources - small * count
-        self.sizes = [large] * first + [small] * (count - first)
-        self.counts = [
-            grid_size(k, self.seed) if self.codec == 200 else k * self.max_n // self.block for k in self.sizes
-        ]
-        if any(n * self.symbol > 268435456 for n in self.counts):
-            raise Ends(7, "fault: limit block-bytes\n")
-        if sum(self.counts) > 4194304:
-            raise Ends(7, "fault: limit symbols\n")
-        if sum(self.counts) * self.symbol > 536870912:
-            raise Ends(7, "fault: limit bytes\n")
-
-    def codes(self, limit):
-        built, codes = {}, []
-        for block, (k, n) in enumerate(zip(self.sizes, self.counts)):
-            if k not in built:
-                try:
-                    built[k] = matrix(self.codec, k, n, self.n1, self.seed, limit)
-                except OverflowError:
-                    raise Ends(6, f"fault: draws block {block}\n") from None
-            codes.append(built[k])
-        return codes
-
-
-def read_header(data):
-    if len(data) < 26:
-        raise Ends(5, f"fault: header short {len(data)}\n")
-    if data[:4] != b"OFPK":
-        raise Ends(5, "fault: header magic\n")
-    if data[4] != 1:
-        raise Ends(5, f"fault: header version {data[4]}\n")
-    if data[5] not in (3, 4, 200):
-        raise Ends(5, f"fault: header codec {data[5]}\n")
-    if data[6] or data[7]:
-        raise Ends(5, "fault: header reserved\n")
-    wide = int.from_bytes(data[17:22], "big")
-    header = Header(
-        data[5], int.from_bytes(data[8:14], "big"), int.from_bytes(data[14:16], "big"), data[16] >> 5, data[16] & 31,
-        wide >> 20, wide & 0xFFFFF, int.from_bytes(data[22:26], "big"),
-    )
-    if fault := header.field_fault():
-        raise Ends(5, f"fault: header field {fault}\n")
-    header.check_sizes()
-    return header
-
-
-def encode(header, data, limit):
-    header.check_sizes()
-    codes = header.codes(limit)
-    size, at, out, packets = header.symbol, 0, [header.spelled()], 0
-    for block, (k, rows) in enumerate(zip(header.sizes, codes)):
-        word = [data[(at + i) * size : (at + i + 1) * size].ljust(size, b"\0") for i in range(k)]
-        at += k
-        for row in rows:
-            total = bytes(size)
-            for column in row[:-1]:
-                total = xor(total, word[column])
-            word.append(total)
-        for position, symbol in enumerate(word):
-            out.append((block << 20 | position).to_bytes(4, "big") + symbol)
-        packets += len(word)
-    return 0, b"".join(out), f"blocks {len(codes)}\npackets {packets}\n"
-
-
-# ---- what arrivals determine
-
-
-def eliminate(rows, sums, unknowns, size):
-    """None where nothing solves the rows; else the symbols of the unknowns, or the first null set."""
-    pivots, left = {}, [(set(row), total) for row, total in zip(rows, sums)]
-    for unknown in unknowns:
-        at = next((i for i, (row, _) in enumerate(left) if unknown in row), None)
-        if at is None:
-            continue
-        row, total = left.pop(at)
-        left = [(r ^ row, xor(t, total)) if unknown in r else (r, t) for r, t in left]
-        pivots = {p: ((r ^ row), xor(t, total)) if unknown in r else (r, t) for p, (r, t) in pivots.items()}
-        pivots[unknown] = (row, total)
-    if any(any(total) for _, total in left):
-        return None, None
-    free = [unknown for unknown in unknowns if unknown not in pivots]
-    if not free:
-        return {unknown: pivots[unknown][1] for unknown in unknowns}, None
-    return None, sorted([free[0]] + [p for p, (row, _) in pivots.items() if free[0] in row])
-
-
-def closure(rows, known):
-    known, more = set(known), True
-    while more:
-        more = [o[0] for row in rows if len(o := [c for c in row if c not in known]) == 1]
-        known |= set(more)
-    return known
-
-
-def outcome(rows, k, n, arrivals, size):
-    """The words of the report, and the source or None."""
-    symbols = {}
-    for position, symbol in arrivals:
-        if symbols.setdefault(position, symbol) != symbol:
-            return " contradicted\n", None
-    unknowns = [c for c in range(n) if c not in symbols]
-    open_rows, sums = [], []
-    for row in rows:
-        total = bytes(size)
-        for column in row:
-            if column in symbols:
-                total = xor(total, symbols[column])
-        open_rows.append([c for c in row if c not in symbols])
-        sums.append(total)
-    values, null = eliminate(open_rows, sums, unknowns, size)
-    if null:
-        return " undetermined" + "".join(f" {c}" for c in null) + "\n", None
-    if values is None:
-        return " contradicted\n", None
-    symbols.update(values)
-    peeled = set(range(k)) <= closure(rows, [position for position, _ in arrivals])
-    return " peeled\n" if peeled else " solved\n", b"".join(symbols[c] for c in range(k))
-
-
-def packets(data, header, most, over=lambda: False):
-    """Number, block, position and bytes of each packet behind the header, until it is over."""
-    length, at, count = 4 + header.symbol, 26, 0
-    while not over() and at < len(data):
-        piece = data[at : at + length]
-        if count == most:
-            raise Ends(7, "fault: limit packets\n")
-        if len(piece) < length:
-            raise Ends(5, f"fault: packet {count} short {len(piece)}\n")
-        identifier = int.from_bytes(piece[:4], "big")
-        block, position = identifier >> 20, identifier & 0xFFFFF
-        if block >= len(header.counts):
-            raise Ends(5, f"fault: packet {count} block {block}\n")
-        if position >= header.counts[block]:
-            raise Ends(5, f"fault: packet {count} symbol {position}\n")
-        yield count, block, position, piece
-        at, count = at + length, count + 1
-
-
-def decode(data, limit, early, most):
-    header = read_header(data)
-    codes = header.codes(limit)
-    count, arrivals = 0, [[] for _ in codes]
-
-    def whole():
-        return early and all(
-            set(range(k)) <= closure(rows, [p for p, _ in came])
-            for k, rows, came in zip(header.sizes, codes, arrivals)
-        )
-
-    for _, block, position, piece in packets(data, header, most, whole):
-        arrivals[block].append((position, piece[4:]))
-        count += 1
-    report, sources = "", []
-    for block, (rows, k, n, came) in enumerate(zip(codes, header.sizes, header.counts, arrivals)):
-        words, source = outcome(rows, k, n, came, header.symbol)
-        report += f"block {block}{words}"
-        sources.append(source)
-    report += f"packets {count}\n"
-    if "contradicted" in report:
-        return 9, b"", report
-    if None in sources:
-        return 8, b"", report
-    return 0, b"".join(sources)[: header.length], report
-
-
-def keeper(loss, seed):
-    """Whether the next packet is kept, by the packet's number."""
-    kind, *numbers = loss.split(":")
-    numbers, draws, state = [int(number) for number in numbers], Draws(seed, -1), {"good": True}
-
-    def burst(_):
-        value = draws.draw(1000)
-        state["good"] = value >= numbers[0] if state["good"] else value < numbers[1]
-        return state["good"]
-
-    return {
-        "none": lambda _: True,
-        "first": lambda count: count >= numbers[0],
-        "even": lambda _: draws.draw(1000) >= numbers[0],
-        "burst": burst,
-    }[kind]
-
-
-def lose(data, loss, seed, most):
-    header, keep = read_header(data), keeper(loss, seed)
-    read, kept, text = 0, 0, data[:26]
-    try:
-        for count, _, _, piece in packets(data, header, most):
-            read += 1
-            if keep(count):
-                kept, text = kept + 1, text + piece
-    except Ends as end:
-        raise Ends(end.status, end.report, text) from None
-    return 0, text, f"read {read} kept {kept}\n"
-
-
-def show(data, most):
-    h = read_header(data)
-    code = f"{h.name()} width {h.seed}" if h.codec == 200 else f"{h.name()} n1 {h.n1} seed {h.seed}"
-    text = f"codec {code} length {h.length} symbol {h.symbol} block {h.block} max {h.max_n} blocks {len(h.counts)}\n"
-    try:
-        for count, block, position, piece in packets(data, h, most):
-            text += f"packet {count} block {block} symbol {position} bytes {piece[4:20].hex()}\n"
-    except Ends as end:
-        raise Ends(end.status, end.report, text.encode()) from None
-    return 0, text.encode(), ""
-
-
-# ---- cases
+def random_shape(chance):
+    """The words that choose a code, its number, N1, and its seed or width."""
+    codec = chance.choice(["staircase", "staircase", "triangle", "2d"])
+    if codec == "2d":
+        width = chance.randint(1, 9)
+        return ["--codec=2d", f"--width={width}"], 200, 3, width
+    n1, seed = chance.randint(3, 10), chance.choice([1, 7, chance.randint(1, 2147483646)])
+    number = {"staircase": 3, "triangle": 4}[codec]
+    return [f"--codec={codec}", f"--n1={n1}", f"--seed={seed}"], number, n1, seed
 
 
 def random_words(chance):
-    codec = chance.choice(["staircase", "staircase", "triangle", "2d"])
-    symbol, block = chance.choice([1, 1, 2, 3, 8, 33]), chance.randint(1, 24)
-    words, limit = [f"--codec={codec}", f"--symbol={symbol}", f"--block={block}"], None
-    if codec == "2d":
-        width = chance.randint(1, 9)
-        words.append(f"--width={width}")
-        return words, limit, lambda size: Header(200, size, symbol, 0, 1, block, grid_size(block, width), width)
-    n1, seed = chance.randint(3, 10), chance.choice([1, 7, chance.randint(1, 2147483646)])
-    max_n = block + chance.randint(0, 24)
-    words += [f"--n1={n1}", f"--seed={seed}", f"--max-n={max_n}"]
-    if chance.random() < 0.1:
-        limit = chance.randint(0, 200)
-        words.append(f"--draws={limit}")
-    number = {"staircase": 3, "triangle": 4}[codec]
-    return words, limit, lambda size: Header(number, size, symbol, n1 - 3, 1, block, max_n, seed)
+    words, codec, n1, seed = random_shape(chance)
+    symbol, block, limit = chance.choice([1, 1, 2, 3, 8, 33]), chance.randint(1, 24), None
+    words += [f"--symbol={symbol}", f"--block={block}"]
+    if codec == 200:
+        max_n = reading.grid_size(block, seed)
+    else:
+        max_n = block + chance.randint(0, 24)
+        words.append(f"--max-n={max_n}")
+        if chance.random() < 0.1:
+            limit = chance.randint(0, 200)
+            words.append(f"--draws={limit}")
+    return words, limit, lambda size: Header(codec, size, symbol, n1 - 3, 1, block, max_n, seed)
 
 
 def random_loss(chance):
     few, many = chance.randint(0, 40), chance.choice([0, 1000, chance.randint(0, 1000)])
     return chance.choice(["none", f"first:{few}", f"even:{many}", f"burst:{chance.randint(0, 1000)}:{many}"])
+
+
+def random_perf(chance):
+    """Words of a `perf`, and what the second reading is given for them."""
+    words, codec, n1, seed = random_shape(chance)
+    given = {"codec": codec, "n1": n1, "seed": seed, "k": chance.randint(1, 24), "symbol": 16}
+    if codec == 200:
+        given["n"] = reading.grid_size(given["k"], seed)
+    else:
+        given["n"] = given["k"] * 3 // 2
+        if chance.random() < 0.02:
+            # Above the limit of a block's bytes by one symbol.
+            given |= {"n": 4097, "symbol": 65535}
+            words.append("--symbol=65535")
+        elif chance.random() < 0.7:
+            given["n"] = given["k"] + chance.randint(0, 24)
+        if given["n"] != given["k"] * 3 // 2:
+            words.append(f"--n={given['n']}")
+        if chance.random() < 0.1:
+            given["limit"] = chance.randint(0, 200)
+            words.append(f"--draws={given['limit']}")
+    words.append(f"--k={given['k']}")
+    if given["symbol"] == 65535:
+        return words, given
+    choices = {
+        "symbol": chance.choice([1, 1, 2, 33, 257]), "loss": random_loss(chance), "runs": chance.randint(1, 4),
+        "order": chance.choice(["sent", "random"]), "run_seed": chance.choice([1, chance.randint(1, 2147483646)]),
+    }
+    for name, value in choices.items():
+        if chance.random() < 0.7:
+            given[name] = value
+            words.append(f"--{name.replace('_', '-')}={value}")
+    chance.shuffle(words)
+    return words, given
 
 
 def damaged(chance, file, size):
@@ -390,13 +125,13 @@ def damaged(chance, file, size):
 
 def program(words, data):
     done = subprocess.run([PROGRAM, *words], input=data, capture_output=True, check=False)
-    report = "".join(line for line in done.stderr.decode().splitlines(True) if not line.startswith("rebuilt "))
-    return done.returncode, done.stdout, report
+    lines = done.stderr.decode().splitlines(True)
+    return done.returncode, done.stdout, "".join(line for line in lines if not line.startswith("rebuilt "))
 
 
-def expected(call):
+def expected(call, *given, **named):
     try:
-        return call()
+        return call(*given, **named)
     except Ends as end:
         return end.status, end.output, end.report
 
@@ -412,34 +147,71 @@ def check(words, data, wanted, seen):
     return got
 
 
+def check_perf_by_hand(seen):
+    """The second reading gives the lines that were worked out by hand, and the program gives those of the reading."""
+    for more, lines in PERF_BY_HAND:
+        wanted = expected(reading.perf, 3, 1, 3, 1, 3, 7, **more)
+        text = f"code staircase k 3 n 7 entries 16 draws 12\n{lines}".encode()
+        if wanted != (0, text, ""):
+            sys.exit(f"The second reading of perf gives {wanted}, and not {text}.")
+        words = ["--k=3", "--n=7", "--symbol=1", *(f"--{name}={value}" for name, value in more.items())]
+        check(["perf", *words], b"", wanted, seen)
+
+
+def check_vectors(seen):
+    """The packet files of tools/vectors/encodes.txt, which a second implementation computed."""
+    for line in (pathlib.Path(__file__).parent / "vectors" / "encodes.txt").read_text().splitlines():
+        if line.startswith("#"):
+            continue
+        words, size, digest, length, report = [part.strip() for part in line.split("|")]
+        words = [] if words == "(none)" else words.split()
+        got = program(["encode", *words], bytes((i * 7 + i // 256) % 256 for i in range(int(size))))
+        seen[got[0]] = seen.get(got[0], 0) + 1
+        if (hashlib.sha256(got[1]).hexdigest(), len(got[1]), got[2].split("\n")) != (
+            digest,
+            int(length),
+            [*report.split(", "), ""],
+        ):
+            sys.exit(f"encode {' '.join(words)}: another packet file than that of tools/vectors/encodes.txt")
+
+
+def check_file(chance, file, symbol, seen):
+    """What comes out of a packet file that met with something on the way."""
+    file = damaged(chance, file, 4 + symbol)
+    options, early, most, limit = ["decode"], chance.random() < 0.3, 16777216, None
+    if early:
+        options.append("--early=yes")
+    if chance.random() < 0.1:
+        most = chance.randint(0, 40)
+        options.append(f"--packets={most}")
+    if chance.random() < 0.05:
+        limit = chance.randint(0, 300)
+        options.append(f"--draws={limit}")
+    check(options, file, expected(reading.decode, file, limit, early, most), seen)
+    most, loss = chance.randint(0, 60), random_loss(chance)
+    start = chance.choice([1, chance.randint(1, 2147483646)])
+    options = [f"--loss={loss}", f"--seed={start}", f"--packets={most}"]
+    check(["lose", *options], file, expected(reading.lose, file, loss, start, most), seen)
+    check(["show", f"--packets={most}"], file, expected(reading.show, file, most), seen)
+
+
 def main():
     cases = int(sys.argv[1]) if len(sys.argv) > 1 else 2000
     seed = int(sys.argv[2]) if len(sys.argv) > 2 else random.randrange(2**32)
     chance, seen = random.Random(seed), {}
+    check_perf_by_hand(seen)
+    check_vectors(seen)
     for _ in range(cases):
         words, limit, header_of = random_words(chance)
         data = chance.randbytes(chance.choice([0, 1, chance.randint(1, 60), chance.randint(1, 300)]))
         header = header_of(len(data))
         status, file, _ = check(
-            ["encode", *words], data, expected(lambda: encode(header, data, limit)), seen  # noqa: B023
+            ["encode", *words], data, expected(reading.encode, header, data, limit), seen
         )
-        if status:
-            continue
-        file = damaged(chance, file, 4 + header.symbol)
-        options, early, most, limit = ["decode"], chance.random() < 0.3, 16777216, None
-        if early:
-            options.append("--early=yes")
-        if chance.random() < 0.1:
-            most = chance.randint(0, 40)
-            options.append(f"--packets={most}")
-        if chance.random() < 0.05:
-            limit = chance.randint(0, 300)
-            options.append(f"--draws={limit}")
-        check(options, file, expected(lambda: decode(file, limit, early, most)), seen)  # noqa: B023
-        most, loss, start = chance.randint(0, 60), random_loss(chance), chance.choice([1, chance.randint(1, 2147483646)])
-        options = [f"--loss={loss}", f"--seed={start}", f"--packets={most}"]
-        check(["lose", *options], file, expected(lambda: lose(file, loss, start, most)), seen)  # noqa: B023
-        check(["show", f"--packets={most}"], file, expected(lambda: show(file, most)), seen)  # noqa: B023
+        if not status:
+            check_file(chance, file, header.symbol, seen)
+        words, given = random_perf(chance)
+        check(["perf", *words], b"", expected(reading.perf, **given), seen)
     statuses = ", ".join(f"{count} of status {status}" for status, count in sorted(seen.items()))
     print(f"{sum(seen.values())} runs from seed {seed}, no difference: {statuses}")
 

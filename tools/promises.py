@@ -1,5 +1,5 @@
 #!/usr/bin/env python3
-"""Finds the clause behind each promise of docs/PROMISES.md.
+"""Finds the clause behind each promise of docs/PROMISES.md, and behind each answer of docs/CAUSES.md.
 
 A line of a table ends with functions and, in brackets, clauses of their contracts, or fields of a record of promises. Each
 has to be there, in the crate that the heading above names. With `-v` each is printed with its file and line; a name that
@@ -10,7 +10,7 @@ import re
 import sys
 
 TOP = pathlib.Path(__file__).resolve().parent.parent
-PAGE = TOP / "docs" / "PROMISES.md"
+PAGES = [TOP / "docs" / "PROMISES.md", TOP / "docs" / "CAUSES.md"]
 FUNCTION = re.compile(r"^\s*(?:pub(?:\([a-z]+\))? )?(?:const )?fn (\w+)")
 TYPE = re.compile(r"^(?:impl(?:<[^>]*>)? (?:(\w+)(?:<[^>]*>)? for )?(\w+)|pub (?:struct|enum|trait) (\w+))")
 CLAUSE = re.compile(r"^\s*ensures\*? (\w+) \{")
@@ -50,18 +50,18 @@ def fields(crate):
     return found
 
 
-def main():
-    verbose = "-v" in sys.argv[1:]
+def check(page, verbose):
+    """How many names of a page were not found, and how many were."""
     errors, shown = 0, 0
     crates, owner, record = [], None, None
-    for number, line in enumerate(PAGE.read_text().splitlines(), 1):
+    for number, line in enumerate(page.read_text().splitlines(), 1):
         if line.startswith("### "):
             crates = re.findall(r"`(\w+)`", line)
             crates = [name for name in crates if (TOP / "crates" / name).is_dir()]
             known = [(crate, function) for crate in crates for function in functions(crate)]
             records = {name: place for crate in crates for name, place in fields(crate).items()}
             record = None
-        if not crates or not line.startswith("|") or line.startswith(("|---", "| promise", "| law", "| status", "| words")):
+        if not crates or not line.startswith("|") or line.startswith(("|---", "| promise", "| law", "| status", "| words", "| call")):
             continue
         cell = line.rstrip("|").split("|")[-1].strip()
         # A record's name, and then fields, alone in later lines.
@@ -95,7 +95,7 @@ def main():
                 owner = plain
                 continue
             if not match:
-                print(f"docs/PROMISES.md:{number}: `{name}` isn't in {', '.join(crates)}")
+                print(f"docs/{page.name}:{number}: `{name}` isn't in {', '.join(crates)}")
                 errors += 1
                 continue
             for function in match[:1]:
@@ -109,11 +109,17 @@ def main():
                     if verbose:
                         print(f"{at[0][2].relative_to(TOP)}:{at[0][4][clause]}: {name} ({clause})")
                 elif not any(clause in place[2] for place in records.values()) and not clause.startswith("Is"):
-                    print(f"docs/PROMISES.md:{number}: `{name}` has no clause `{clause}`")
+                    print(f"docs/{page.name}:{number}: `{name}` has no clause `{clause}`")
                     errors += 1
+    return errors, shown
+
+
+def main():
+    verbose = "-v" in sys.argv[1:]
+    found = [check(page, verbose) for page in PAGES]
     if verbose:
-        print(f"{shown} functions, clauses and fields found")
-    return 1 if errors else 0
+        print(f"{sum(shown for _, shown in found)} functions, clauses and fields found")
+    return 1 if any(errors for errors, _ in found) else 0
 
 
 if __name__ == "__main__":
