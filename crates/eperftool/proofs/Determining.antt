@@ -1,5 +1,6 @@
 -- What the packets determine of the blocks.
-use Rattle.std.proofs.Common.{◌↔◌, ℕ, ◌<◌, Bool, List, length, slice_index_or, Option, refl, sym, ap, ◌∙◌, subst, arith}
+use Rattle.std.proofs.Common.{◌↔◌, ℕ, ◌<◌, Bool, List, length, slice_index_or, Option, refl, sym}
+use Rattle.std.proofs.Common.{ap, ◌∙◌, subst, arith}
 use Rattle.fec_base.specs.Told.{Telling}
 use Rattle.sparse_rows.specs.Matrix.{Matrix}
 use Rattle.sparse_rows.specs.Codeword.{Arrival}
@@ -19,9 +20,12 @@ use Rattle.eperftool.specs.Outcomes.{decode_report, object_of}
 use Rattle.eperftool.proofs.Cores.{blank}
 
 -- so decoders of all packets say what the input decodes to
-module _ (draws : Option ℕ) (early : Bool) (most : ℕ) (left now : Option (List ℕ)) (told told_now : Option (List Telling)) (h : HeaderFields) (decoders : List Decoder) (count : ℕ)
-    (is : IsReceived draws early most left now told told_now h decoders count) (outcomes : List Outcome) (out : ComeOut decoders outcomes) where
-  determined_at : (b : ℕ) (o : Outcome) → b < length outcomes → Determines (is.code b) h.oti.symbol (arrivals_of b is.packets) (slice_index_or outcomes b o)
+module _ (draws : Option ℕ) (early : Bool) (most : ℕ) (left now : Option (List ℕ))
+    (told told_now : Option (List Telling)) (h : HeaderFields) (decoders : List Decoder) (count : ℕ)
+    (is : IsReceived draws early most left now told told_now h decoders count)
+    (outcomes : List Outcome) (out : ComeOut decoders outcomes) where
+  determined_at : (b : ℕ) (o : Outcome) → b < length outcomes
+      → Determines (is.code b) h.oti.symbol (arrivals_of b is.packets) (slice_index_or outcomes b o)
   determined_at b o lt =
       let within : b < length decoders = omega (arith, lt, out.counted) in
       let d : Decoder = slice_index_or decoders b blank in
@@ -29,9 +33,12 @@ module _ (draws : Option ℕ) (early : Bool) (most : ℕ) (left now : Option (Li
       let x : Outcome = slice_index_or outcomes b o in
       let stands : StandsFor d arrivals = is.cores.stand b blank within in
       let own : Determines d.matrix d.len arrivals x = out.each b blank o within arrivals stands in
-      subst (λ (len : ℕ). Determines (is.code b) len arrivals x) (is.cores.len b blank within) (subst (λ (m : Matrix). Determines m d.len arrivals x) (is.cores.matrix b blank within) own)
+      subst (λ (len : ℕ). Determines (is.code b) len arrivals x) (is.cores.len b blank within)
+      (subst (λ (m : Matrix). Determines m d.len arrivals x) (is.cores.matrix b blank within)
+      own)
 
-  pub decodes : Decodes draws early most left now told told_now outcomes (object_of outcomes h.oti.length) (decode_report outcomes count)
+  pub decodes : Decodes draws early most left now told told_now outcomes
+      (object_of outcomes h.oti.length) (decode_report outcomes count)
   decodes = record {
     header = h;
     code = is.code;

@@ -1,7 +1,12 @@
 -- How a run ends that is refused.
 use Rattle.std.proofs.Common.{◌≡◌, refl, sym, ◌∙◌, subst}
 use Rattle.packet_file.specs.declared.fault.FileFault.{FileFault}
-use Rattle.packet_file.specs.declared.fault.FileFault.TheVariants.{ShortHeader, BadMagic, BadVersion, BadCodec, BadReserved, Field, ShortPacket, NoSuchBlock, NoSuchSymbol, TooLarge, TooManyBlocks, TooManyPackets, ReadFault}
+use Rattle.packet_file.specs.declared.fault.FileFault.TheVariants.{ShortHeader, BadMagic}
+use Rattle.packet_file.specs.declared.fault.FileFault.TheVariants.{BadVersion, BadCodec}
+use Rattle.packet_file.specs.declared.fault.FileFault.TheVariants.{BadReserved, Field, ShortPacket}
+use Rattle.packet_file.specs.declared.fault.FileFault.TheVariants.{NoSuchBlock, NoSuchSymbol}
+use Rattle.packet_file.specs.declared.fault.FileFault.TheVariants.{TooLarge, TooManyBlocks}
+use Rattle.packet_file.specs.declared.fault.FileFault.TheVariants.{TooManyPackets, ReadFault}
 use Rattle.tool_base.specs.declared.status.Status.{Status}
 use Rattle.tool_base.specs.declared.status.Status.TheVariants as status
 use Rattle.eperftool.specs.Refusals.{IsRefused, fault_status, refusal_status}
@@ -47,7 +52,8 @@ is_refused (Draws b) = tt
 is_refused Watch = tt
 
 -- and so no other
-pub no_other : (refusal : Refusal) (result other : Status) → result ≡ refusal_status refusal → result ≡ other → IsRefused other
+pub no_other : (refusal : Refusal) (result other : Status) → result ≡ refusal_status refusal
+    → result ≡ other → IsRefused other
 no_other refusal result other ended is = subst IsRefused (sym ended ∙ is) (is_refused refusal)
 
 -- only want of memory has the status of want of memory

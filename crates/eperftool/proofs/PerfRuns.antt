@@ -1,5 +1,6 @@
 -- What a `perf` does, by how it ended.
-use Rattle.std.proofs.Common.{◌≡◌, ◌≤◌, ℕ, List, ⊎_elim, inl, inr, refl, sym, ap, ◌∙◌, subst, arith, Some}
+use Rattle.std.proofs.Common.{◌≡◌, ◌≤◌, ℕ, List, ⊎_elim, inl, inr, refl, sym, ap, ◌∙◌, subst, arith}
+use Rattle.std.proofs.Common.{Some}
 use Rattle.std.specs.Io.KnownBytes.{Appends, Keeps}
 use Rattle.sparse_rows.specs.Matrix.{IsCode, Matrix}
 use Rattle.staircase.specs.Staircase.{CountedMatrix}
@@ -23,8 +24,10 @@ use Rattle.eperftool.proofs.Ends.{is_refused, no_other}
 
 module _ (o : PerfOptions) (output output_now report report_now : Stream) (ended : Status) where
   -- a `perf` that is refused before it writes
-  pub tries_refused : (refusal : Refusal) → ended ≡ refusal_status refusal → RefusesPerf o refusal → Keeps output.bytes output_now.bytes
-      → IsTold (refusal_text refusal) report report_now → Tries o output output_now report report_now ended
+  pub tries_refused : (refusal : Refusal) → ended ≡ refusal_status refusal → RefusesPerf o refusal
+      → Keeps output.bytes output_now.bytes
+      → IsTold (refusal_text refusal) report report_now
+      → Tries o output output_now report report_now ended
   tries_refused refusal is refuses kept told = record {
     done = λ other. absurd (no_other refusal ended status.Done is other);
     cut = λ other. absurd (no_other refusal ended status.WriteFault is other);
@@ -36,7 +39,8 @@ module _ (o : PerfOptions) (output output_now report report_now : Stream) (ended
 
   module _ (t : Tried o) where
     -- one whose lines were all written
-    pub tries_whole : ended ≡ status.Done → Appends output.bytes output_now.bytes (tried_text o t) → report_now ≡ report → Tries o output output_now report report_now ended
+    pub tries_whole : ended ≡ status.Done → Appends output.bytes output_now.bytes (tried_text o t)
+        → report_now ≡ report → Tries o output output_now report report_now ended
     tries_whole is whole same = rw is (record {
       done = λ again. (t, whole, same);
       cut = λ other. absurd (cc other);
@@ -47,7 +51,8 @@ module _ (o : PerfOptions) (output output_now report report_now : Stream) (ended
     })
 
     -- one whose output failed
-    pub tries_cut : ended ≡ status.WriteFault → OutputFails (tried_text o t) output output_now report report_now → Tries o output output_now report report_now ended
+    pub tries_cut : ended ≡ status.WriteFault → OutputFails (tried_text o t) output output_now
+        report report_now → Tries o output output_now report report_now ended
     tries_cut is fails = rw is (record {
       done = λ other. absurd (cc other);
       cut = λ again. (t, fails);
@@ -58,7 +63,10 @@ module _ (o : PerfOptions) (output output_now report report_now : Stream) (ended
     })
 
     -- one that lacked memory within its runs
-    pub tries_out : ended ≡ status.Memory → AppendsPart output.bytes output_now.bytes (tried_text o t) → IsTold (refusal_text Memory) report report_now → Tries o output output_now report report_now ended
+    pub tries_out : ended ≡ status.Memory
+        → AppendsPart output.bytes output_now.bytes (tried_text o t)
+        → IsTold (refusal_text Memory) report report_now
+        → Tries o output output_now report report_now ended
     tries_out is part told = rw is (record {
       done = λ other. absurd (cc other);
       cut = λ other. absurd (cc other);
@@ -69,15 +77,26 @@ module _ (o : PerfOptions) (output output_now report report_now : Stream) (ended
     })
 
 -- what is said of the text of runs of a code that was built holds of the text of what was tried
-pub tried_of : (o : PerfOptions) (m : Matrix) (draws : ℕ) (name : List ℕ) (P : List ℕ → Type 0) → name ≡ codec_word o.shape.codec → block_bytes o ≤ 268435456
-    → shape_matrix o.shape o.k o.n ≡ Some (record { matrix = m; draws = draws }) → IsCode m → OfText (trial_of o.plan m) o.plan.runs name draws P → (t : Tried o) × P (tried_text o t)
+pub tried_of : (o : PerfOptions) (m : Matrix) (draws : ℕ) (name : List ℕ) (P : List ℕ → Type 0)
+    → name ≡ codec_word o.shape.codec → block_bytes o ≤ 268435456
+    → shape_matrix o.shape o.k o.n ≡ Some (record { matrix = m; draws = draws }) → IsCode m
+    → OfText (trial_of o.plan m) o.plan.runs name draws P → (t : Tried o) × P (tried_text o t)
 tried_of o m draws name P named small builds code (results, runs, counted, written) = (
-  record { built = record { matrix = m; draws = draws }; results = results; small = small; builds = builds; shape = code.shape; runs = runs; counted = counted },
+  record {
+    built = record { matrix = m; draws = draws };
+    results = results;
+    small = small;
+    builds = builds;
+    shape = code.shape;
+    runs = runs;
+    counted = counted;
+  },
   subst (λ (n : List ℕ). P (trial_text n draws (trial_of o.plan m) results)) named written,
 )
 
 -- within the limits only memory may lack
-not_refused : (o : PerfOptions) (built : CountedMatrix) → block_bytes o ≤ 268435456 → shape_matrix o.shape o.k o.n ≡ Some built
+not_refused : (o : PerfOptions) (built : CountedMatrix) → block_bytes o ≤ 268435456
+    → shape_matrix o.shape o.k o.n ≡ Some built
     → (refusal : Refusal) → RefusesPerf o refusal → refusal ≡ Memory
 not_refused o built small builds Memory refuses = refl
 not_refused o built small builds (File fault) (is, large) = absurd (omega (arith, small, large))
@@ -85,13 +104,18 @@ not_refused o built small builds (Draws b) (zero, fits, none) = absurd (cc (sym 
 not_refused o built small builds Watch refuses = absurd refuses
 
 -- so where nothing fails the lines are written, or memory lacks
-pub comes_through : (o : PerfOptions) (built : CountedMatrix) (before after : Streams) (ended : Status) → block_bytes o ≤ 268435456 → shape_matrix o.shape o.k o.n ≡ Some built
+pub comes_through : (o : PerfOptions) (built : CountedMatrix) (before after : Streams)
+    (ended : Status) → block_bytes o ≤ 268435456 → shape_matrix o.shape o.k o.n ≡ Some built
     → NothingFails before after → IsPerfRun o before after ended
-    → OrMemory ended ((ended ≡ status.Done) × (t : Tried o) × Appends before.output.bytes after.output.bytes (tried_text o t))
+    → OrMemory ended ((ended ≡ status.Done) × (t : Tried o) × Appends before.output.bytes
+    after.output.bytes (tried_text o t))
 comes_through o built before after ended small builds clean run = ⊎_elim
-    (λ (refused : IsRefused ended). let is = run.tries.refused refused in inl (is.1 ∙ ap refusal_status (not_refused o built small builds is.0 is.2)))
+    (λ (refused : IsRefused ended). let is = run.tries.refused refused in
+    inl (is.1 ∙ ap refusal_status (not_refused o built small builds is.0 is.2)))
     (λ other. ⊎_elim
-    (λ (done : ended ≡ status.Done). let (t, whole, same) = run.tries.done done in inr (done, t, whole))
-    (λ (cut : ended ≡ status.WriteFault). let (t, fails) = run.tries.cut cut in absurd (clean.writes fails.rose))
+    (λ (done : ended ≡ status.Done). let (t, whole, same) = run.tries.done done in
+    inr (done, t, whole))
+    (λ (cut : ended ≡ status.WriteFault). let (t, fails) = run.tries.cut cut in
+    absurd (clean.writes fails.rose))
     other)
     run.tries.ends

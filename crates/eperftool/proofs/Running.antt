@@ -19,8 +19,10 @@ use Rattle.eperftool.proofs.PassRuns.{ends_refused}
 use Rattle.eperftool.proofs.Telling.{keeps_same}
 
 -- what the command of the words does is what a run of them does
-pub runs_asked : (words : List (List ℕ)) (before after : Streams) (watch watch_now : Hearing) (ended : Status) (asked : Option Command)
-    → command_of words ≡ asked → IsCommandRun asked before after watch watch_now ended → IsRun words before after watch watch_now ended
+pub runs_asked : (words : List (List ℕ)) (before after : Streams) (watch watch_now : Hearing)
+    (ended : Status) (asked : Option Command)
+    → command_of words ≡ asked → IsCommandRun asked before after watch watch_now ended
+    → IsRun words before after watch watch_now ended
 runs_asked words before after watch watch_now ended asked means run = rw means run
 
 module _ (before : Streams) (report : Stream) where
@@ -28,18 +30,27 @@ module _ (before : Streams) (report : Stream) where
   after = record before { report = report }
 
   -- words that mean no command
-  pub runs_usage : (ended : Status) → ended ≡ status.Usage → IsTold (fault_text status.Usage) before.report report → IsUsageRun before after ended
-  runs_usage ended is told = rw is (record { ends = inl refl; input = refl; output = refl; told = told })
+  pub runs_usage : (ended : Status) → ended ≡ status.Usage
+      → IsTold (fault_text status.Usage) before.report report → IsUsageRun before after ended
+  runs_usage ended is told = rw is
+      (record { ends = inl refl; input = refl; output = refl; told = told })
 
   -- without memory for the words a pass takes nothing
-  pass_out : (pass : Pass) (most : ℕ) (ended : Status) → ended ≡ status.Memory → IsTold (fault_text status.Memory) before.report report → IsPassRun pass most before after ended
+  pass_out : (pass : Pass) (most : ℕ) (ended : Status) → ended ≡ status.Memory
+      → IsTold (fault_text status.Memory) before.report report
+      → IsPassRun pass most before after ended
   pass_out pass most ended is told =
-      let none : Consumes before.input.bytes before.input.bytes [] = Consumes-nil before.input.bytes in
-      ends_refused pass most before after ended Memory is (Keeps-refl before.output.bytes, inl none) ([], none) told
+      let none : Consumes before.input.bytes before.input.bytes [] =
+      Consumes-nil before.input.bytes in
+      ends_refused pass most before after ended Memory is (Keeps-refl before.output.bytes, inl none)
+      ([], none) told
 
   -- and any command ends so
-  pub runs_out : (watch : Hearing) (asked : Option Command) (ended : Status) → ended ≡ status.Memory → IsTold (fault_text status.Memory) before.report report → IsCommandRun asked before after watch watch ended
-  runs_out watch None ended is told = rw is (record { ends = inr refl; input = refl; output = refl; told = told })
+  pub runs_out : (watch : Hearing) (asked : Option Command) (ended : Status) → ended ≡ status.Memory
+      → IsTold (fault_text status.Memory) before.report report
+      → IsCommandRun asked before after watch watch ended
+  runs_out watch None ended is told =
+      rw is (record { ends = inr refl; input = refl; output = refl; told = told })
   runs_out watch (Some (command.Encode shape symbol block max_n)) ended is told = rw is (record {
     done = λ other. absurd (cc other);
     cut = λ other. absurd (cc other);
@@ -52,22 +63,30 @@ module _ (before : Streams) (report : Stream) where
   runs_out watch (Some (command.Decode draws early most)) ended is told = rw is (record {
     done = λ other. absurd (cc other);
     cut = λ other. absurd (cc other);
-    undecided = ⊎_elim (λ (other : status.Memory ≡ status.NoCodeword). absurd (cc other)) (λ (other : status.Memory ≡ status.Undetermined). absurd (cc other));
-    refused = λ refused. (Memory, refl, inl ([], Consumes-nil before.input.bytes, omega arith, keeps_same watch.told), told);
+    undecided = ⊎_elim (λ (other : status.Memory ≡ status.NoCodeword). absurd (cc other))
+        (λ (other : status.Memory ≡ status.Undetermined). absurd (cc other));
+    refused = λ refused. (
+      Memory,
+      refl,
+      inl ([], Consumes-nil before.input.bytes, omega arith, keeps_same watch.told),
+      told,
+    );
     unwritten = λ done cut. Keeps-refl before.output.bytes;
     taken = ([], Consumes-nil before.input.bytes);
     ends = λ (other : status.Memory ≡ status.Usage). cc;
   })
-  runs_out watch (Some (command.Lose loss seed most)) ended is told = pass_out (Lose loss seed) most ended is told
+  runs_out watch (Some (command.Lose loss seed most)) ended is told = pass_out (Lose loss seed) most
+      ended is told
   runs_out watch (Some (command.Show most)) ended is told = pass_out Show most ended is told
-  runs_out watch (Some (command.Perf shape symbol k n loss random runs seed)) ended is told = rw is (record {
-    input = refl;
-    tries = record {
-      done = λ other. absurd (cc other);
-      cut = λ other. absurd (cc other);
-      memory = λ same. inl (Keeps-refl before.output.bytes);
-      refused = λ refused. (Memory, refl, tt, told);
-      unwritten = λ refused apart. Keeps-refl before.output.bytes;
-      ends = inl tt;
-    };
-  })
+  runs_out watch (Some (command.Perf shape symbol k n loss random runs seed)) ended is told =
+      rw is (record {
+        input = refl;
+        tries = record {
+          done = λ other. absurd (cc other);
+          cut = λ other. absurd (cc other);
+          memory = λ same. inl (Keeps-refl before.output.bytes);
+          refused = λ refused. (Memory, refl, tt, told);
+          unwritten = λ refused apart. Keeps-refl before.output.bytes;
+          ends = inl tt;
+        };
+      })

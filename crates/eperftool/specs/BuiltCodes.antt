@@ -4,13 +4,13 @@ use Rattle.std.specs.Prelude.{◌≡◌, ◌⊎◌}
 use Rattle.packet_file.specs.Header.{HeaderFields, source_counts, symbol_count}
 use Rattle.packet_file.specs.Packets.{block_symbols}
 use Rattle.sparse_rows.specs.Matrix.{IsCode, Matrix}
-use Rattle.eperftool.specs.Codes.{IsFirstOver, count_at, matrix_of}
+use Rattle.eperftool.specs.Codes.{IsFirstOver, count_at, header_matrix}
 use Rattle.eperftool.specs.declared.refusal.Refusal.{Refusal}
 use Rattle.eperftool.specs.declared.refusal.Refusal.TheVariants.{Draws, File, Memory, Watch}
 
 -- each matrix is that of the blocks with its number of source symbols
 abbrev pub AreMatrices : HeaderFields → Option ℕ → List Matrix → Type 0
-AreMatrices h draws matrices = All (λ m. matrix_of h draws m.k ≡ Some m) matrices
+AreMatrices h draws matrices = All (λ m. header_matrix h draws m.k ≡ Some m) matrices
 
 -- one of the matrices has k source symbols
 abbrev pub HasSize : List Matrix → ℕ → Type 0
@@ -26,7 +26,7 @@ pub record AreCodes (h : HeaderFields) (draws : Option ℕ) (matrices : List Mat
 -- no code was built of block b: memory lacked, or it takes more draws than there may be
 abbrev pub RefusesCode : HeaderFields → Option ℕ → ℕ → Refusal → Type 0
 RefusesCode h draws b refusal = (refusal ≡ Memory)
-    ⊎ ((refusal ≡ Draws b) × (matrix_of h draws (count_at h b) ≡ None))
+    ⊎ ((refusal ≡ Draws b) × (header_matrix h draws (count_at h b) ≡ None))
 
 -- no codes were built of the blocks: memory lacked, or this is the first that takes more draws than
 -- there may be
@@ -41,7 +41,7 @@ pub record AreBlockCodes (h : HeaderFields) (draws : Option ℕ) (matrices : Lis
   where
     pub counted : length matrices ≡ length (source_counts h)
     pub built : (b : ℕ) (m : Matrix) → b < length matrices
-        → matrix_of h draws (count_at h b) ≡ Some (slice_index_or matrices b m)
+        → header_matrix h draws (count_at h b) ≡ Some (slice_index_or matrices b m)
     pub sources : (b : ℕ) (m : Matrix) → b < length matrices
         → (slice_index_or matrices b m).k ≡ count_at h b
     pub symbols : (b : ℕ) (m : Matrix) → b < length matrices

@@ -7,8 +7,8 @@ use Rattle.tool_base.specs.BlockCode.{block_matrix}
 
 -- the parity check matrix of a block of k source symbols; none where it takes more draws than there
 -- may be
-abbrev pub matrix_of : HeaderFields → Option ℕ → ℕ → Option Matrix
-matrix_of h draws k = option_map (λ counted. counted.matrix) (block_matrix h draws k)
+abbrev pub header_matrix : HeaderFields → Option ℕ → ℕ → Option Matrix
+header_matrix h draws k = option_map (λ counted. counted.matrix) (block_matrix h draws k)
 
 -- how many source symbols block b has
 abbrev pub count_at : HeaderFields → ℕ → ℕ
@@ -16,10 +16,10 @@ count_at h b = slice_index (source_counts h) b
 
 -- block b has a matrix
 abbrev pub HasMatrix : HeaderFields → Option ℕ → ℕ → Type 0
-HasMatrix h draws b = (m : Matrix) × (matrix_of h draws (count_at h b) ≡ Some m)
+HasMatrix h draws b = (m : Matrix) × (header_matrix h draws (count_at h b) ≡ Some m)
 
 -- block b is the first whose matrix takes more draws than there may be
 pub record IsFirstOver (h : HeaderFields) (draws : Option ℕ) (b : ℕ) : Type 0 where
   pub block : b < length (source_counts h)
-  pub over : matrix_of h draws (count_at h b) ≡ None
+  pub over : header_matrix h draws (count_at h b) ≡ None
   pub before : (i : ℕ) → i < b → HasMatrix h draws i

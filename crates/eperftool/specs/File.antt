@@ -10,7 +10,7 @@ use Rattle.sparse_rows.specs.Codeword.{IsEncoded}
 use Rattle.packet_file.specs.Header.{HeaderFields, IsHeader, header_bytes, source_counts}
 use Rattle.packet_file.specs.Packets.{packet_bytes}
 use Rattle.oti_fields.specs.declared.identifier.PacketId.{PacketId}
-use Rattle.eperftool.specs.Codes.{count_at, matrix_of}
+use Rattle.eperftool.specs.Codes.{count_at, header_matrix}
 
 -- an identifier: the number of the source block, and that of the encoding symbol
 abbrev pub identifier : ℕ → ℕ → PacketId
@@ -38,7 +38,7 @@ source_block h object b = take (count_at h b)
 pub record IsEncodedBlock (h : HeaderFields) (draws : Option ℕ) (object : List ℕ) (b : ℕ)
     (word : List (List ℕ)) : Type 0 where
   pub matrix : Matrix
-  pub code : matrix_of h draws (count_at h b) ≡ Some matrix
+  pub code : header_matrix h draws (count_at h b) ≡ Some matrix
   pub shape : HasShape matrix
   pub encoded : IsEncoded matrix h.oti.symbol (source_block h object b) word
 

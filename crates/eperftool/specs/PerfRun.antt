@@ -39,10 +39,10 @@ pub record Tried (o : PerfOptions) : Type 0 where
 
 -- the lines of these runs
 abbrev pub tried_text : (o : PerfOptions) → Tried o → List ℕ
-tried_text o t = trial_text (codec_word o.shape.codec) t.built.draws (trial_of o.plan t.built.matrix)
-    t.results
+tried_text o t = trial_text (codec_word o.shape.codec) t.built.draws
+    (trial_of o.plan t.built.matrix) t.results
 
--- a `perf` is refused: its block is too large, or else its matrix takes more draws than there may be
+-- a `perf` is refused: its block is too large, or else its matrix takes more draws than it may
 abbrev pub RefusesPerf : PerfOptions → Refusal → Type 0
 RefusesPerf o Memory = ⊤
 RefusesPerf o (File fault) = (fault ≡ TooLarge BlockBytes) × (268435456 < block_bytes o)

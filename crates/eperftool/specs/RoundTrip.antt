@@ -11,7 +11,7 @@ use Rattle.fec_session.specs.declared.outcome.Outcome.{Outcome}
 use Rattle.fec_session.specs.declared.outcome.Outcome.TheVariants as outcome
 use Rattle.packet_file.specs.Header.{HeaderFields, header_bytes, source_counts}
 use Rattle.tool_base.specs.declared.status.Status.TheVariants as status
-use Rattle.eperftool.specs.Codes.{count_at, matrix_of}
+use Rattle.eperftool.specs.Codes.{count_at, header_matrix}
 use Rattle.eperftool.specs.File.{IsEncoding, identifier, source_block}
 use Rattle.packet_file.specs.Packets.{Packet, spelled}
 use Rattle.fec_session.specs.Determines.{Determines}
@@ -39,7 +39,7 @@ AreAmong packets others = All (Contains others) packets
 pub record ComesOut (h : HeaderFields) (draws : Option ℕ) (packets : List Packet) (b : ℕ)
     (o : Outcome) : Type 0 where
   pub matrix : Matrix
-  pub code : matrix_of h draws (count_at h b) ≡ Some matrix
+  pub code : header_matrix h draws (count_at h b) ≡ Some matrix
   pub determined : Determines matrix h.oti.symbol (arrivals_of b packets) o
 
 -- so the file's blocks come out by them, one after the other
@@ -56,10 +56,10 @@ IsRight source (outcome.Block block) = block.source ≡ source
 IsRight source (outcome.Undetermined word) = ⊤
 
 -- a block that has this source, by peeling alone
-abbrev pub IsPeeled : List (List ℕ) → Outcome → Type 0
-IsPeeled source outcome.NoCodeword = ⊥
-IsPeeled source (outcome.Block block) = (block.source ≡ source) × (block.by_peeling ≡ true)
-IsPeeled source (outcome.Undetermined word) = ⊥
+abbrev pub IsByPeeling : List (List ℕ) → Outcome → Type 0
+IsByPeeling source outcome.NoCodeword = ⊥
+IsByPeeling source (outcome.Block block) = (block.source ≡ source) × (block.by_peeling ≡ true)
+IsByPeeling source (outcome.Undetermined word) = ⊥
 
 -- each block comes out like this, by its source block of the object
 abbrev pub EachBlock : (List (List ℕ) → Outcome → Type 0) → HeaderFields → List ℕ → List Outcome
@@ -79,7 +79,7 @@ LacksNullWord m s = (word : List ℕ) → ¬ IsNullWord m s word
 -- in no block the positions that came have a null word
 abbrev pub LackNullWords : HeaderFields → Option ℕ → List Packet → Type 0
 LackNullWords h draws packets = (b : ℕ) (m : Matrix) → b < length (source_counts h)
-    → matrix_of h draws (count_at h b) ≡ Some m
+    → header_matrix h draws (count_at h b) ≡ Some m
     → LacksNullWord m (positions (arrivals_of b packets))
 
 -- what was encoded is never decoded wrong: by whichever packets of an object's file, no block is
@@ -105,7 +105,7 @@ GivenBackByAll = (h : HeaderFields) (draws limit : Option ℕ) (object : List �
     (sent came : List Packet) (outcomes : List Outcome)
     → AreSent h draws object sent → AreAmong came sent → AreAmong sent came
     → ComeOutBy h limit came outcomes
-    → EachBlock IsPeeled h object outcomes × GiveBack h object outcomes
+    → EachBlock IsByPeeling h object outcomes × GiveBack h object outcomes
 
 -- neither the order of packets nor repeats matter: the same packets let the blocks come out alike,
 -- whoever made them
@@ -156,4 +156,4 @@ DecodeUndoesEncode = (h : HeaderFields) (draws limit : Option ℕ) (object file 
     → h.oti.length ≡ length object → IsEncoding h draws object file text
     → Decodes limit early most (Some file) left told told_now outcomes made report
     → (outcome_status outcomes ≡ status.Done) × (made ≡ object)
-    × EachBlock IsPeeled h object outcomes
+    × EachBlock IsByPeeling h object outcomes

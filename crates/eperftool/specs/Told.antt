@@ -10,14 +10,14 @@ use Rattle.sparse_rows.specs.Codeword.{positions}
 use Rattle.sparse_rows.specs.Closure.{fresh}
 use Rattle.sparse_rows.specs.Determined.{IsForced, HoldsSource}
 use Rattle.packet_file.specs.Header.{HeaderFields, IsHeader, header_bytes, source_counts}
-use Rattle.eperftool.specs.Codes.{count_at, matrix_of}
+use Rattle.eperftool.specs.Codes.{count_at, header_matrix}
 use Rattle.eperftool.specs.Received.{arrivals_of}
 use Rattle.packet_file.specs.Packets.{IsPacketOf, Packet, spelled}
 
 -- these are the matrices of the file's blocks
 abbrev pub HasCodes : HeaderFields → Option ℕ → (ℕ → Matrix) → Type 0
 HasCodes h draws code = (b : ℕ) → b < length (source_counts h)
-    → matrix_of h draws (count_at h b) ≡ Some (code b)
+    → header_matrix h draws (count_at h b) ≡ Some (code b)
 
 -- what a packet behind those before makes known in its block, beside its own symbol, rising
 abbrev pub new_places : (ℕ → Matrix) → List Packet → Packet → List Place

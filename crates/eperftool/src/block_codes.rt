@@ -6,7 +6,7 @@ ghost use Rattle.packet_file.specs.Header.{source_counts};
 ghost use Rattle.packet_file.specs.Packets.{block_symbols};
 ghost use Rattle.eperftool.specs.BuiltCodes.{AreBlockCodes, AreCodes, HasSize, RefusesCode};
 ghost use Rattle.eperftool.specs.BuiltCodes.{RefusesCodes};
-ghost use Rattle.eperftool.specs.Codes.{count_at, matrix_of};
+ghost use Rattle.eperftool.specs.Codes.{count_at, header_matrix};
 
 use crate::Refusal;
 use fec_base::NoMemory;
@@ -63,7 +63,7 @@ fn build_code(
     draws: Option<u32>,
 ) -> Result<Code, Refusal>
     requires { block < length (source_counts header.now) }
-    ensures code { IfOk result (λ code. matrix_of header.now draws (count_at header.now block)
+    ensures code { IfOk result (λ code. header_matrix header.now draws (count_at header.now block)
         ≡ Some code) }
     ensures source { IfOk result (λ code. code.k ≡ count_at header.now block) }
     ensures symbols { IfOk result (λ code. code.n ≡ block_symbols header.now block) }

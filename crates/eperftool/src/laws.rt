@@ -160,8 +160,8 @@ pub fn packet_files_are_passed()
     headers_and_packets_have_one_spelling();
 }
 
-/// The options of a `perf` decide its lines: which symbols its runs keep, how each of them ends, and
-/// so the text.
+/// The options of a `perf` decide its lines: which symbols its runs keep, how each of them ends,
+/// and so the text.
 pub fn one_text_for_each_perf()
     ensures { PerfIsOne }
 {

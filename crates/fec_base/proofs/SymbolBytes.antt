@@ -1,5 +1,6 @@
 -- The bytes of symbols and of their sums.
-use Rattle.std.proofs.Common.{◌≡◌, ℕ, zero, suc, List, [], ◌∷◌, length, get_or, refl, ap, arith, bit_xor}
+use Rattle.std.proofs.Common.{◌≡◌, ℕ, zero, suc, List, [], ◌∷◌, length, get_or, refl, ap, arith}
+use Rattle.std.proofs.Common.{bit_xor}
 use Rattle.std.proofs.lemmas.List.{ext_get_or}
 use Rattle.fec_base.specs.Symbol.{xor, zero_symbol}
 
@@ -12,7 +13,8 @@ length_xor [] t e = refl
 length_xor (a ∷ s) [] e = absurd (omega arith)
 length_xor (a ∷ s) (b ∷ t) e = ap suc (length_xor s t (omega arith))
 
-pub byte_xor : (s t : List ℕ) → length s ≡ length t → (j : ℕ) → byte j (xor s t) ≡ bit_xor (byte j s) (byte j t)
+pub byte_xor : (s t : List ℕ) → length s ≡ length t → (j : ℕ)
+    → byte j (xor s t) ≡ bit_xor (byte j s) (byte j t)
 byte_xor [] [] e j = refl
 byte_xor [] (b ∷ t) e j = absurd (omega arith)
 byte_xor (a ∷ s) [] e j = absurd (omega arith)

@@ -10,8 +10,8 @@ use std::alloc::Global;
 
 /// The least number of items, from the start of the order, that together have no null word. None
 /// exactly where all items together have one. The items are positions of encoding symbols in the
-/// order in which they come, and may be repeated. Prefixes are tried by halving, each with a decoder
-/// of one byte a symbol, for which it takes memory.
+/// order in which they come, and may be repeated. Prefixes are tried by halving, each with a
+/// decoder of one byte a symbol, for which it takes memory.
 pub fn least_prefix(alloc: Global, code: &Code, order: &[u32]) -> Result<Option<u32>, NoMemory>
     requires below { All (λ position. position < code.now.n) order.now }
     requires few { length order.now ≤ 16777216 }

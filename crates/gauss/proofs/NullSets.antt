@@ -1,5 +1,7 @@
 -- The null sets that back substitution gives to the free unknowns are the reduced ones.
-use Rattle.std.proofs.Common.{◌≡◌, ◌≢◌, ℕ, zero, suc, ◌+◌, ◌<◌, ◌≤◌, ◌&&◌, ◌==◌, ⊎_elim, inl, inr, true, false, List, [], length, All, refl, sym, ap, ◌∙◌, subst, arith, true≢false, ltb, eq-eqb, eqb-true, le_antisymm}
+use Rattle.std.proofs.Common.{◌≡◌, ◌≢◌, ℕ, zero, suc, ◌+◌, ◌<◌, ◌≤◌, ◌&&◌, ◌==◌, ⊎_elim, inl, inr}
+use Rattle.std.proofs.Common.{true, false, List, [], length, All, refl, sym, ap, ◌∙◌, subst, arith}
+use Rattle.std.proofs.Common.{true≢false, ltb, eq-eqb, eqb-true, le_antisymm}
 use Rattle.std.specs.List.{range_with_len}
 use Rattle.std.specs.List.Sorted.{IsStrictlyIncreasing}
 use Rattle.std.proofs.Math.Bool.{xor as bool_xor}
@@ -9,7 +11,8 @@ use Rattle.sparse_rows.specs.Closure.{Set, members}
 use Rattle.sparse_rows.specs.Matrix.{is_in}
 use Rattle.sparse_rows.specs.NullWord.{last_of}
 use Rattle.sparse_rows.specs.Totals.{total}
-use Rattle.sparse_rows.proofs.Null.{in_all, members_below, members_in, members_rise, null_of, passes}
+use Rattle.sparse_rows.proofs.Null.{in_all, members_below, members_in, members_rise, null_of}
+use Rattle.sparse_rows.proofs.Null.{passes}
 use Rattle.sparse_rows.proofs.Parity.{bit_laws}
 use Rattle.null_witness.specs.ReducedWords.{IsLate, IsReducedWord}
 use Rattle.null_witness.proofs.Increasing.{last_in, last_most}
@@ -27,41 +30,63 @@ use Rattle.gauss.proofs.Products.{product_none, product_zero}
 use Rattle.gauss.proofs.Stages.{solves_same}
 use Rattle.gauss.proofs.Unique.{row_at}
 
-module _ (s : System) (ok : IsSystem s) (first now : ℕ → Set) (row_of lead : ℕ → ℕ) (st : IsStage s.unknowns (length s.equations) s.unknowns first now row_of lead)
-    (as_first : (j c : ℕ) → j < length s.equations → c < s.unknowns → mask_of s.equations j c ≡ first j c) where
+module _ (s : System) (ok : IsSystem s) (first now : ℕ → Set) (pivot_row lead : ℕ
+    → ℕ) (st : IsStage s.unknowns (length s.equations) s.unknowns first now pivot_row lead)
+    (as_first : (j c : ℕ) → j < length s.equations → c < s.unknowns
+    → mask_of s.equations j c ≡ first j c) where
   -- what a null set has at an unknown with a pivot row comes from the row
-  null_valued : (set : List ℕ) → IsNullSet s set → (p : ℕ) → p < s.unknowns → row_of p < length s.equations → is_in set p ≡ value false bool_xor s.unknowns now row_of (λ j. false) p (is_in set)
-  null_valued set null p lt pivot = solution_values false bool_xor bit_laws s.unknowns now row_of (λ j. false) (length s.equations) first lead st (is_in set)
-      ((st.nulls (is_in set)).0 (solves_same false bool_xor bit_laws s.unknowns (length s.equations) (mask_of s.equations) first (λ j. false) (λ j. false) (is_in set) as_first (λ j lt2. refl) (to_even s ok set null))) p lt pivot
+  null_valued : (set : List ℕ) → IsNullSet s set → (p : ℕ) → p < s.unknowns
+      → pivot_row p < length s.equations → is_in set p ≡ value false bool_xor s.unknowns now
+      pivot_row (λ j. false) p (is_in set)
+  null_valued set null p lt pivot = solution_values false bool_xor bit_laws s.unknowns now pivot_row
+      (λ j. false) (length s.equations) first lead st (is_in set)
+      ((st.nulls (is_in set)).0 (solves_same false bool_xor bit_laws s.unknowns (length s.equations)
+      (mask_of s.equations) first (λ j. false) (λ j. false) (is_in set) as_first (λ j lt2. refl)
+      (to_even s ok set null))) p lt pivot
 
   last_below : (set : List ℕ) → IsNullSet s set → last_of set < s.unknowns
-  last_below set null = in_all (λ c. c < s.unknowns) set null.below (last_of set) (last_in set null.nonempty)
+  last_below set null = in_all (λ c. c < s.unknowns) set null.below (last_of set)
+      (last_in set null.nonempty)
 
   -- a null set ends at a free unknown
-  last_is_free : (set : List ℕ) → IsNullSet s set → length s.equations ≤ row_of (last_of set)
+  last_is_free : (set : List ℕ) → IsNullSet s set → length s.equations ≤ pivot_row (last_of set)
   last_is_free set null = ⊎_elim
-      (λ pivot. absurd (true≢false (sym (last_in set null.nonempty) ∙ null_valued set null (last_of set) (last_below set null) pivot ∙ bit_laws.left _ ∙ nothing)))
-      (λ le. le) (cases_lt (row_of (last_of set)) (length s.equations))
+      (λ pivot. absurd (true≢false (sym (last_in set null.nonempty)
+      ∙ null_valued set null (last_of set) (last_below set null) pivot ∙ bit_laws.left _
+      ∙ nothing)))
+      (λ le. le) (cases_lt (pivot_row (last_of set)) (length s.equations))
     where
-      nothing : product false bool_xor s.unknowns (behind now row_of (last_of set)) (is_in set) ≡ false
-      nothing = product_zero false bool_xor bit_laws s.unknowns (behind now row_of (last_of set)) (is_in set) (λ c lt. ⊎_elim
+      nothing : product false bool_xor s.unknowns (behind now pivot_row (last_of set)) (is_in set)
+          ≡ false
+      nothing = product_zero false bool_xor bit_laws s.unknowns (behind now pivot_row (last_of set))
+          (is_in set) (λ c lt. ⊎_elim
           (λ gt. inr (none_past set null.rising c gt))
           (λ le. inl (rw (le-ltb (last_of set) c le) refl)) (cases_lt (last_of set) c))
 
   -- f gives the free unknowns, rising, and x i the members of the set of f i
   module _ (sets : ℕ) (f : ℕ → ℕ) (x : ℕ → Set)
-      (past : (p c : ℕ) → length s.equations ≤ row_of p → now (row_of p) c ≡ false)
-      (low : (i : ℕ) → i < sets → f i < s.unknowns) (free : (i : ℕ) → i < sets → length s.equations ≤ row_of (f i))
-      (all : (p : ℕ) → p < s.unknowns → length s.equations ≤ row_of p → (i : ℕ) × (i < sets) × (f i ≡ p))
-      (back : (i p : ℕ) → i < sets → p < s.unknowns → x i p ≡ bool_xor (p == f i) (product false bool_xor s.unknowns (behind now row_of p) (x i))) where
-    at_free : (i p : ℕ) → i < sets → p < s.unknowns → length s.equations ≤ row_of p → x i p ≡ (p == f i)
+      (past : (p c : ℕ) → length s.equations ≤ pivot_row p → now (pivot_row p) c ≡ false)
+      (low : (i : ℕ) → i < sets → f i < s.unknowns) (free : (i : ℕ) → i < sets
+      → length s.equations ≤ pivot_row (f i))
+      (all : (p : ℕ) → p < s.unknowns → length s.equations ≤ pivot_row p → (i : ℕ) × (i < sets)
+      × (f i ≡ p))
+      (back : (i p : ℕ) → i < sets → p < s.unknowns
+      → x i p ≡ bool_xor (p == f i) (product false bool_xor s.unknowns (behind now pivot_row p)
+      (x i))) where
+    at_free : (i p : ℕ) → i < sets → p < s.unknowns → length s.equations ≤ pivot_row p
+        → x i p ≡ (p == f i)
     at_free i p lt lt2 le = back i p lt lt2
-        ∙ ap (bool_xor (p == f i)) (product_none false bool_xor bit_laws s.unknowns (behind now row_of p) (x i) (λ c lt3. ap (λ b. ltb p c && b) (past p c le) ∙ and_no (ltb p c)))
+        ∙ ap (bool_xor (p == f i)) (product_none false bool_xor bit_laws s.unknowns
+        (behind now pivot_row p) (x i) (λ c lt3. ap (λ b. ltb p c && b) (past p c le)
+        ∙ and_no (ltb p c)))
         ∙ xor_none (p == f i)
 
-    at_pivot : (i p : ℕ) → i < sets → p < s.unknowns → row_of p < length s.equations → x i p ≡ value false bool_xor s.unknowns now row_of (λ j. false) p (x i)
+    at_pivot : (i p : ℕ) → i < sets → p < s.unknowns → pivot_row p < length s.equations
+        → x i p ≡ value false bool_xor s.unknowns now pivot_row (λ j. false) p (x i)
     at_pivot i p lt lt2 pivot = back i p lt lt2
-        ∙ ap (λ b. bool_xor b (product false bool_xor s.unknowns (behind now row_of p) (x i))) (ne_eqb p (f i) (λ e. let z = ap row_of e in let le = free i lt in omega (arith, z, pivot, le)))
+        ∙ ap (λ b. bool_xor b (product false bool_xor s.unknowns (behind now pivot_row p) (x i)))
+        (ne_eqb p (f i) (λ e. let z = ap pivot_row e in let le = free i lt in
+        omega (arith, z, pivot, le)))
 
     abbrev pub set : ℕ → List ℕ
     set i = members s.unknowns (x i)
@@ -77,14 +102,19 @@ module _ (s : System) (ok : IsSystem s) (first now : ℕ → Set) (row_of lead :
       none_behind : (n c : ℕ) → f i < c → c < s.unknowns → s.unknowns ≤ c + n → x i c ≡ false
       none_behind zero c gt lt2 le = absurd (omega arith)
       none_behind (suc n) c gt lt2 le = ⊎_elim
-          (λ pivot. at_pivot i c lt lt2 pivot ∙ bit_laws.left _ ∙ product_zero false bool_xor bit_laws s.unknowns (behind now row_of c) (x i) (λ d lt3. ⊎_elim
+          (λ pivot. at_pivot i c lt lt2 pivot ∙ bit_laws.left _ ∙ product_zero false bool_xor
+          bit_laws s.unknowns (behind now pivot_row c) (x i) (λ d lt3. ⊎_elim
           (λ gt2. inr (none_behind n d (omega arith) lt3 (omega arith)))
           (λ le2. inl (rw (le-ltb c d le2) refl)) (cases_lt c d)))
           (λ le2. at_free i c lt lt2 le2 ∙ ne_eqb c (f i) (λ e. omega (arith, e)))
-          (cases_lt (row_of c) (length s.equations))
+          (cases_lt (pivot_row c) (length s.equations))
 
       held : (c : ℕ) → is_in (set i) c ≡ true → (c < s.unknowns) × (x i c ≡ true)
-      held c e = (in_all (λ d. d < s.unknowns) (members s.unknowns (x i)) (members_below s.unknowns (x i)) c e, passes (x i) (range_with_len 0 s.unknowns) c e)
+      held c e = (
+        in_all (λ d. d < s.unknowns) (members s.unknowns (x i))
+            (members_below s.unknowns (x i)) c e,
+        passes (x i) (range_with_len 0 s.unknowns) c e,
+      )
 
       nonempty : set i ≢ []
       nonempty none = true≢false (sym own_in ∙ ap (λ w. is_in w (f i)) none)
@@ -97,27 +127,43 @@ module _ (s : System) (ok : IsSystem s) (first now : ℕ → Set) (row_of lead :
         where
           up : last_of (set i) ≤ f i
           up = let w = held (last_of (set i)) (last_in (set i) nonempty) in
-              ⊎_elim (λ gt. absurd (true≢false (sym w.1 ∙ none_behind s.unknowns (last_of (set i)) gt w.0 (omega arith)))) (λ le. le) (cases_lt (f i) (last_of (set i)))
+              ⊎_elim (λ gt. absurd (true≢false (sym w.1 ∙ none_behind s.unknowns (last_of (set i))
+              gt w.0 (omega arith)))) (λ le. le) (cases_lt (f i) (last_of (set i)))
 
-      meets : Solves false bool_xor s.unknowns (length s.equations) (mask_of s.equations) (λ j. false) (x i)
-      meets = solves_same false bool_xor bit_laws s.unknowns (length s.equations) first (mask_of s.equations) (λ j. false) (λ j. false) (x i) (λ j c lt2 lt3. sym (as_first j c lt2 lt3)) (λ j lt2. refl)
-          ((st.nulls (x i)).1 (values_solve false bool_xor bit_laws s.unknowns now row_of (λ j. false) (length s.equations) first lead st (x i) (λ j lt2 e. refl) (λ p lt2 pivot. at_pivot i p lt lt2 pivot)))
+      meets : Solves false bool_xor s.unknowns (length s.equations) (mask_of s.equations)
+          (λ j. false) (x i)
+      meets = solves_same false bool_xor bit_laws s.unknowns (length s.equations) first
+          (mask_of s.equations) (λ j. false) (λ j. false) (x i)
+          (λ j c lt2 lt3. sym (as_first j c lt2 lt3)) (λ j lt2. refl)
+          ((st.nulls (x i)).1 (values_solve false bool_xor bit_laws s.unknowns now pivot_row
+          (λ j. false) (length s.equations) first lead st (x i) (λ j lt2 e. refl)
+          (λ p lt2 pivot. at_pivot i p lt lt2 pivot)))
 
       null : IsNullSet s (set i)
       null = null_of (matrix_of s)
-          (λ j lt2. let inside : j < length s.equations = rw length-map at lt2 in subst (All (λ d. d < s.unknowns)) (sym (row_at s j inside)) (ok j (no_equation 0) inside).below)
+          (λ j lt2. let inside : j < length s.equations = rw length-map at lt2 in
+          subst (All (λ d. d < s.unknowns)) (sym (row_at s j inside))
+          (ok j (no_equation 0) inside).below)
           (λ c. false) (x i) (f i) (low i lt) at_own (λ d e. absurd (true≢false (sym e)))
           (λ t lt2. let inside : t < length s.equations = rw length-map at lt2 in
-          ap (total false bool_xor (x i)) (row_at s t inside) ∙ row_product s ok false bool_xor bit_laws t inside (x i) ∙ meets t inside)
+          ap (total false bool_xor (x i)) (row_at s t inside) ∙ row_product s ok false bool_xor
+          bit_laws t inside (x i) ∙ meets t inside)
 
       pub reduced : IsReducedWord (IsNullSet s) (set i)
       reduced = record { one = null; only = only }
         where
           only : (q : ℕ) → IsLate (IsNullSet s) q → is_in (set i) q ≡ true → q ≡ last_of (set i)
           only q late e = let w = held q e in
-              eqb-true q (f i) (sym (at_free i q lt w.0 (subst (λ p. length s.equations ≤ row_of p) late.2 (last_is_free late.0 late.1))) ∙ w.1) ∙ sym last
+              eqb-true q (f i) (sym (at_free i q lt w.0
+              (subst (λ p. length s.equations ≤ pivot_row p) late.2
+              (last_is_free late.0 late.1))) ∙ w.1) ∙ sym last
 
-    pub every : (word : List ℕ) → IsReducedWord (IsNullSet s) word → (i : ℕ) × (i < sets) × (set i ≡ word)
+    pub every : (word : List ℕ) → IsReducedWord (IsNullSet s) word → (i : ℕ) × (i < sets)
+        × (set i ≡ word)
     every word red =
-        let a = all (last_of word) (last_below word red.one) (last_is_free word red.one) in
-        (a.0, a.1, reduced_is_one (IsNullSet s) (null_linear (matrix_of s) (λ c. false)) (set a.0) word (reduced a.0 a.1) red (last a.0 a.1 ∙ a.2))
+        let a = all (last_of word) (last_below word red.one) (last_is_free word red.one) in (
+          a.0,
+          a.1,
+          reduced_is_one (IsNullSet s) (null_linear (matrix_of s) (λ c. false)) (set a.0)
+              word (reduced a.0 a.1) red (last a.0 a.1 ∙ a.2),
+        )

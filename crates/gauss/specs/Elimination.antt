@@ -31,8 +31,8 @@ taken_in u i bits lead j p = ltb p (cond (ltb (lead j) u) (lead j) i) && bits j 
 -- the sum of row j: the sum that it had first, and those of the pivot rows that went into it
 abbrev pub sum_in : {G : Type 0} → G → (G → G → G) → ℕ → ℕ → (ℕ → Set) → (ℕ → ℕ) → (ℕ → ℕ)
     → (ℕ → G) → ℕ → G
-sum_in o add u i bits lead row_of first j =
-    add (first j) (product o add u (taken_in u i bits lead j) (λ p. first (row_of p)))
+sum_in o add u i bits lead pivot_row first j =
+    add (first j) (product o add u (taken_in u i bits lead j) (λ p. first (pivot_row p)))
 
 -- the rows that unknown i is cleared from by row t: the others that lead none and have it
 abbrev pub hit_by : ℕ → ℕ → ℕ → (ℕ → Set) → (ℕ → ℕ) → ℕ → Bool
@@ -48,21 +48,21 @@ pub record IsCleared (u t i : ℕ) (lead : ℕ → ℕ) (bits bits_now : ℕ →
 
 -- the first r rows of bits once the unknowns below i were eliminated, with the null sets and the
 -- solutions of the first bits, whatever the sums are
-pub record IsStage (u r i : ℕ) (first now : ℕ → Set) (row_of lead : ℕ → ℕ) : Type 0 where
+pub record IsStage (u r i : ℕ) (first now : ℕ → Set) (pivot_row lead : ℕ → ℕ) : Type 0 where
   -- the pivot row of an unknown leads it,
-  pub own : (p : ℕ) → p < i → row_of p < r → lead (row_of p) ≡ p
+  pub own : (p : ℕ) → p < i → pivot_row p < r → lead (pivot_row p) ≡ p
   -- without its own bit,
-  pub gone : (p : ℕ) → p < i → row_of p < r → now (row_of p) p ≡ false
+  pub gone : (p : ℕ) → p < i → pivot_row p < r → now (pivot_row p) p ≡ false
   -- and what leads an unknown is its pivot row
-  pub led : (j : ℕ) → lead j < u → (lead j < i) × (row_of (lead j) ≡ j)
+  pub led : (j : ℕ) → lead j < u → (lead j < i) × (pivot_row (lead j) ≡ j)
   pub nulls : (w : Set) → Solves false bool_xor u r first (λ j. false) w
       ↔ Solves false bool_xor u r (mask_in u i now lead) (λ j. false) w
   pub planes : (s x : ℕ → ℕ) → Solves 0 bit_xor u r first s x
-      ↔ Solves 0 bit_xor u r (mask_in u i now lead) (sum_in 0 bit_xor u i now lead row_of s) x
+      ↔ Solves 0 bit_xor u r (mask_in u i now lead) (sum_in 0 bit_xor u i now lead pivot_row s) x
 
 -- the pivot row of an unknown: r where it is free
-abbrev pub row_of : ℕ → List ℕ → ℕ → ℕ
-row_of r pivots p = slice_index_or pivots p r
+abbrev pub pivot_row : ℕ → List ℕ → ℕ → ℕ
+pivot_row r pivots p = slice_index_or pivots p r
 
 -- the unknown that a row leads: u where it leads none
 abbrev pub lead_of : ℕ → List ℕ → ℕ → ℕ
@@ -103,8 +103,8 @@ IsStep u r i bits bits_now pivots leads pivots_now leads_now =
 pub record IsStageIn (u r i : ℕ) (first now : ℕ → Set) (pivots leads : List ℕ) : Type 0 where
   pub pivot_count : length pivots ≡ u
   pub lead_count : length leads ≡ r
-  pub later : (p : ℕ) → i ≤ p → p < u → row_of r pivots p ≡ r
-  pub stage : IsStage u r i first now (row_of r pivots) (lead_of u leads)
+  pub later : (p : ℕ) → i ≤ p → p < u → pivot_row r pivots p ≡ r
+  pub stage : IsStage u r i first now (pivot_row r pivots) (lead_of u leads)
 
 -- a stage at which the unknowns below i are eliminated has become one for those below `end`
 abbrev pub Advances : ℕ → ℕ → ℕ → ℕ → (ℕ → Set) → (ℕ → Set) → List ℕ → List ℕ → List ℕ → List ℕ
@@ -116,54 +116,54 @@ Advances u r i end bits bits_now pivots leads pivots_now leads_now = (first : �
 -- unknown f is free, and none below it is
 pub record IsFirstFree (r : ℕ) (pivots : List ℕ) (f : ℕ) : Type 0 where
   pub below : f < length pivots
-  pub is_free : r ≤ row_of r pivots f
-  pub others : (p : ℕ) → p < f → row_of r pivots p < r
+  pub is_free : r ≤ pivot_row r pivots f
+  pub others : (p : ℕ) → p < f → pivot_row r pivots p < r
 
 -- each unknown has a pivot row
 abbrev pub AllPivots : ℕ → List ℕ → Type 0
-AllPivots r pivots = (p : ℕ) → p < length pivots → row_of r pivots p < r
+AllPivots r pivots = (p : ℕ) → p < length pivots → pivot_row r pivots p < r
 
 -- the bits of the pivot row of p before p
 abbrev pub before : (ℕ → Set) → (ℕ → ℕ) → ℕ → Set
-before bits row_of p c = ltb c p && bits (row_of p) c
+before bits pivot_row p c = ltb c p && bits (pivot_row p) c
 
 -- the bits of the pivot row of p behind p
 abbrev pub behind : (ℕ → Set) → (ℕ → ℕ) → ℕ → Set
-behind bits row_of p c = ltb p c && bits (row_of p) c
+behind bits pivot_row p c = ltb p c && bits (pivot_row p) c
 
 -- the flags of the null set of f: f, none behind it, and each unknown before it that its pivot row
 -- gives
-pub record IsNullFlags (u : ℕ) (bits : ℕ → Set) (row_of : ℕ → ℕ) (f : ℕ) (flags : List Bool)
+pub record IsNullFlags (u : ℕ) (bits : ℕ → Set) (pivot_row : ℕ → ℕ) (f : ℕ) (flags : List Bool)
     : Type 0 where
   pub count : length flags ≡ u
   pub free : flagged flags f ≡ true
   pub none : (c : ℕ) → f < c → flagged flags c ≡ false
   pub back : (p : ℕ) → p < f
-      → flagged flags p ≡ product false bool_xor u (behind bits row_of p) (flagged flags)
+      → flagged flags p ≡ product false bool_xor u (behind bits pivot_row p) (flagged flags)
 
 -- each symbol, with those before it that went into its pivot row and the values behind it that its
 -- row has
 abbrev pub AreSubstituted : ℕ → ℕ → (ℕ → Set) → (ℕ → ℕ) → List ℕ → List ℕ → Type 0
-AreSubstituted u len bits row_of symbols values = (p t : ℕ) → p < u → t < len
+AreSubstituted u len bits pivot_row symbols values = (p t : ℕ) → p < u → t < len
     → byte_in len values t p
     ≡ bit_xor (bit_xor (byte_in len symbols t p)
-    (product 0 bit_xor u (before bits row_of p) (byte_in len symbols t)))
-    (product 0 bit_xor u (behind bits row_of p) (byte_in len values t))
+    (product 0 bit_xor u (before bits pivot_row p) (byte_in len symbols t)))
+    (product 0 bit_xor u (behind bits pivot_row p) (byte_in len values t))
 
 -- byte t of the value of p: that of its pivot row's sum, with those of the rows that went into it,
 -- and with those of the values behind p that it has
 abbrev pub IsValue : ℕ → ℕ → (ℕ → Set) → (ℕ → ℕ) → List (List ℕ) → List ℕ → ℕ → ℕ → Type 0
-IsValue u len bits row_of sums values p t = byte_in len values t p
-    ≡ bit_xor (bit_xor (sum_byte sums t (row_of p))
-    (product 0 bit_xor u (before bits row_of p) (λ c. sum_byte sums t (row_of c))))
-    (product 0 bit_xor u (behind bits row_of p) (byte_in len values t))
+IsValue u len bits pivot_row sums values p t = byte_in len values t p
+    ≡ bit_xor (bit_xor (sum_byte sums t (pivot_row p))
+    (product 0 bit_xor u (before bits pivot_row p) (λ c. sum_byte sums t (pivot_row c))))
+    (product 0 bit_xor u (behind bits pivot_row p) (byte_in len values t))
 
 -- each byte of each value is as the rows say
 abbrev pub AreValues : ℕ → ℕ → (ℕ → Set) → (ℕ → ℕ) → List (List ℕ) → List ℕ → Type 0
-AreValues u len bits row_of sums values =
-    (p t : ℕ) → p < u → t < len → IsValue u len bits row_of sums values p t
+AreValues u len bits pivot_row sums values =
+    (p t : ℕ) → p < u → t < len → IsValue u len bits pivot_row sums values p t
 
 -- byte t of the sum of row j, with those of the pivot rows that went into it
 abbrev pub rest_byte : ℕ → (ℕ → Set) → (ℕ → ℕ) → List (List ℕ) → ℕ → ℕ → ℕ
-rest_byte u bits row_of sums t j = bit_xor (sum_byte sums t j)
-    (product 0 bit_xor u (bits j) (λ p. sum_byte sums t (row_of p)))
+rest_byte u bits pivot_row sums t j = bit_xor (sum_byte sums t j)
+    (product 0 bit_xor u (bits j) (λ p. sum_byte sums t (pivot_row p)))

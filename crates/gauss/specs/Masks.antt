@@ -7,7 +7,7 @@ use Rattle.std.proofs.Common.{ltb}
 use Rattle.std.proofs.Math.Bool.{xor as bool_xor}
 use Rattle.sparse_rows.specs.Closure.{Set, members}
 use Rattle.gauss.specs.Packed.{byte_in}
-use Rattle.gauss.specs.Elimination.{behind, product, row_of}
+use Rattle.gauss.specs.Elimination.{behind, product, pivot_row}
 use Rattle.gauss.specs.Reduction.{ReducedForm}
 
 -- how many bytes hold a bit for each of so many null sets
@@ -34,7 +34,7 @@ pub record AreMasks (unknowns sets : ℕ) (masks : List ℕ) : Type 0 where
 
 -- the unknowns without a pivot row, rising
 abbrev pub free_unknowns : ℕ → List ℕ → List ℕ
-free_unknowns rows pivots = members (length pivots) (λ p. not (ltb (row_of rows pivots p) rows))
+free_unknowns rows pivots = members (length pivots) (λ p. not (ltb (pivot_row rows pivots p) rows))
 
 -- bit i of an unknown says whether null set i holds it: the set holds free unknown i, no other free
 -- one, and each unknown with a pivot row that has an odd number of the set's unknowns behind it
@@ -44,5 +44,5 @@ pub record AreNullMasks (bits : ℕ → Set) (rows : ℕ) (pivots : List ℕ) (s
   pub masks : AreMasks (length pivots) sets bytes
   pub back : (i p : ℕ) → i < sets → p < length pivots → set_of (stride_of sets) bytes i p
       ≡ bool_xor (p == slice_index_or (free_unknowns rows pivots) i 0)
-      (product false bool_xor (length pivots) (behind bits (row_of rows pivots) p)
+      (product false bool_xor (length pivots) (behind bits (pivot_row rows pivots) p)
       (set_of (stride_of sets) bytes i))

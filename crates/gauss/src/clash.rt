@@ -3,7 +3,7 @@ ghost use Rattle.std.specs.Prelude.{◌≡◌, ◌≢◌, ◌≤◌, ◌<◌, �
 ghost use Rattle.std.specs.Prelude.{slice_index_or, bit_xor};
 ghost use Rattle.fec_base.specs.Symbol.{IsSymbol};
 ghost use Rattle.gauss.specs.Packed.{bits_of, sum_byte};
-ghost use Rattle.gauss.specs.Elimination.{lead_of, product, rest_byte, row_of};
+ghost use Rattle.gauss.specs.Elimination.{lead_of, product, rest_byte, pivot_row};
 
 use crate::packed::has;
 use crate::symbols::is_nonzero;
@@ -29,11 +29,11 @@ pub(crate) fn any_clashes(
     ensures some { result ≡ true → (j : ℕ) × (t : ℕ) × (j < length leads.now)
         × (length pivots.now ≤ lead_of (length pivots.now) leads.now j) × (t < length sum.old)
         × (rest_byte (length pivots.now) (bits_of width words.now)
-        (row_of (length leads.now) pivots.now) sums.now t j ≢ 0) }
+        (pivot_row (length leads.now) pivots.now) sums.now t j ≢ 0) }
     ensures none { result ≡ false → (j t : ℕ) → j < length leads.now
         → length pivots.now ≤ lead_of (length pivots.now) leads.now j → t < length sum.old
         → rest_byte (length pivots.now) (bits_of width words.now)
-        (row_of (length leads.now) pivots.now) sums.now t j ≡ 0 }
+        (pivot_row (length leads.now) pivots.now) sums.now t j ≡ 0 }
     ensures long { length sum.new ≡ length sum.old }
 {
     for j in 0..leads.len() {
@@ -68,7 +68,7 @@ fn add_pivot_sums(
     ensures { (t : ℕ) → t < length sum.old → slice_index_or sum.new t 0
         ≡ bit_xor (slice_index_or sum.old t 0)
         (product 0 bit_xor (length pivots.now) (bits_of width words.now r)
-        (λ p. sum_byte sums.now t (row_of rows pivots.now p))) }
+        (λ p. sum_byte sums.now t (pivot_row rows pivots.now p))) }
 {
     for p in 0..pivots.len() {
         if has(words, width, r, p) {

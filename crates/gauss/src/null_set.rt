@@ -4,7 +4,7 @@ ghost use Rattle.std.specs.Prelude.{length, IfOk};
 ghost use Rattle.std.proofs.Math.Bool.{xor as bool_xor};
 ghost use Rattle.sparse_rows.specs.Closure.{flagged, members};
 ghost use Rattle.gauss.specs.Packed.{bits_of};
-ghost use Rattle.gauss.specs.Elimination.{IsFirstFree, IsNullFlags, product, row_of};
+ghost use Rattle.gauss.specs.Elimination.{IsFirstFree, IsNullFlags, product, pivot_row};
 
 use crate::packed::has;
 use fec_base::NoMemory;
@@ -25,7 +25,7 @@ pub(crate) fn null_set(
     requires words { length words.now ≡ rows * width }
     requires free { IsFirstFree rows pivots.now free }
     ensures { IfOk result (λ set. (flags : List Bool)
-        × IsNullFlags (length pivots.now) (bits_of width words.now) (row_of rows pivots.now) free
+        × IsNullFlags (length pivots.now) (bits_of width words.now) (pivot_row rows pivots.now) free
         flags
         × (set ≡ members (length pivots.now) (flagged flags))) }
 {
@@ -53,7 +53,7 @@ fn put_flags(
     requires count { length flags.old ≡ length pivots.now }
     requires flag { flagged flags.old free ≡ true }
     requires others { (c : ℕ) → c ≢ free → flagged flags.old c ≡ false }
-    ensures { IsNullFlags (length pivots.now) (bits_of width words.now) (row_of rows pivots.now)
+    ensures { IsNullFlags (length pivots.now) (bits_of width words.now) (pivot_row rows pivots.now)
         free
         flags.new }
 {

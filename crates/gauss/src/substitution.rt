@@ -5,7 +5,7 @@ ghost use Rattle.std.specs.Int.{bit_at};
 ghost use Rattle.std.proofs.Common.{ltb};
 ghost use Rattle.gauss.specs.Packed.{KeepsOthers, bits_of, byte_in};
 ghost use Rattle.gauss.specs.Elimination.{AreSubstituted, before, behind, product};
-ghost use Rattle.gauss.specs.Elimination.{row_of};
+ghost use Rattle.gauss.specs.Elimination.{pivot_row};
 ghost use Rattle.gauss.specs.Groups.{AreAdded, HoldsEntries, in_group};
 
 use crate::entries::{add_entry, fill};
@@ -30,7 +30,7 @@ pub(crate) fn substitute(
     requires symbols { length symbols.old ≡ length pivots.now * len }
     requires table { length table.old ≡ 256 * len }
     ensures { AreSubstituted (length pivots.now) len (bits_of width words.now)
-        (row_of rows pivots.now) symbols.old symbols.new }
+        (pivot_row rows pivots.now) symbols.old symbols.new }
 {
     add_recorded(words, width, rows, pivots, len, symbols, table);
     add_values(words, width, rows, pivots, len, symbols, table);
@@ -55,7 +55,7 @@ fn add_recorded(
     requires symbols { length symbols.old ≡ length pivots.now * len }
     requires table { length table.old ≡ 256 * len }
     ensures { AreAdded (length pivots.now) len
-        (before (bits_of width words.now) (row_of rows pivots.now))
+        (before (bits_of width words.now) (pivot_row rows pivots.now))
         symbols.old symbols.old symbols.new }
 {
     let groups = (pivots.len() + 7) / 8;
@@ -86,7 +86,7 @@ fn add_group_recorded(
     requires table { length table.now ≡ 256 * len }
     requires entries { HoldsEntries (length pivots.now) len group symbols.old table.now }
     ensures { AreAdded (length pivots.now) len
-        (λ p. in_group group (before (bits_of width words.now) (row_of rows pivots.now) p))
+        (λ p. in_group group (before (bits_of width words.now) (pivot_row rows pivots.now) p))
         symbols.old symbols.old symbols.new }
 {
     for p in group * 8..pivots.len() {
@@ -129,7 +129,7 @@ pub(crate) fn add_values(
     requires symbols { length symbols.old ≡ length pivots.now * len }
     requires table { length table.old ≡ 256 * len }
     ensures { AreAdded (length pivots.now) len
-        (behind (bits_of width words.now) (row_of rows pivots.now))
+        (behind (bits_of width words.now) (pivot_row rows pivots.now))
         symbols.new symbols.old symbols.new }
 {
     let groups = (pivots.len() + 7) / 8;
@@ -158,7 +158,7 @@ fn add_group_values(
     requires symbols { length symbols.old ≡ length pivots.now * len }
     requires table { length table.old ≡ 256 * len }
     ensures { AreAdded (length pivots.now) len
-        (λ p. in_group group (behind (bits_of width words.now) (row_of rows pivots.now) p))
+        (λ p. in_group group (behind (bits_of width words.now) (pivot_row rows pivots.now) p))
         symbols.new symbols.old symbols.new }
 {
     add_values_within(words, width, rows, pivots, group, len, symbols);
@@ -186,7 +186,7 @@ fn add_values_within(
     ensures own { (p t : ℕ) → p < length pivots.now → p / 8 ≡ group → t < len
         → byte_in len symbols.new t p ≡ bit_xor (byte_in len symbols.old t p)
         (product 0 bit_xor (length pivots.now)
-        (in_group group (behind (bits_of width words.now) (row_of rows pivots.now) p))
+        (in_group group (behind (bits_of width words.now) (pivot_row rows pivots.now) p))
         (byte_in len symbols.new t)) }
     ensures others { (p t : ℕ) → p / 8 ≢ group → t < len
         → byte_in len symbols.new t p ≡ byte_in len symbols.old t p }
@@ -253,7 +253,7 @@ fn add_values_before(
     ensures low { (p t : ℕ) → p < group * 8 → t < len
         → byte_in len symbols.new t p ≡ bit_xor (byte_in len symbols.old t p)
         (product 0 bit_xor (length pivots.now)
-        (in_group group (bits_of width words.now (row_of rows pivots.now p)))
+        (in_group group (bits_of width words.now (pivot_row rows pivots.now p)))
         (byte_in len symbols.old t)) }
     ensures rest { (p t : ℕ) → group * 8 ≤ p → t < len
         → byte_in len symbols.new t p ≡ byte_in len symbols.old t p }

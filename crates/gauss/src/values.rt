@@ -3,7 +3,7 @@ ghost use Rattle.std.specs.Prelude.{◌≡◌, ◌≤◌, ◌<◌, ◌+◌, ◌*
 ghost use Rattle.std.specs.Prelude.{slice_index_or, IfOk, []};
 ghost use Rattle.fec_base.specs.Symbol.{IsSymbol, symbols_of};
 ghost use Rattle.gauss.specs.Packed.{AreSymbols, KeepsOthers, bits_of, byte_in, sum_byte};
-ghost use Rattle.gauss.specs.Elimination.{AreValues, IsValue, row_of};
+ghost use Rattle.gauss.specs.Elimination.{AreValues, IsValue, pivot_row};
 
 use crate::Values;
 use crate::substitution::substitute;
@@ -36,7 +36,7 @@ pub(crate) fn some_values(
     requires symbols { All (IsSymbol len) sums.now }
     ensures { IfOk result (λ symbols. (values : List ℕ)
         × (length values ≡ length pivots.now * len) × All (λ byte. byte < 256) values
-        × AreValues (length pivots.now) len (bits_of width words.now) (row_of rows pivots.now)
+        × AreValues (length pivots.now) len (bits_of width words.now) (pivot_row rows pivots.now)
         sums.now values
         × (symbols ≡ symbols_of len (length pivots.now) values)) }
 {
@@ -93,8 +93,8 @@ fn write_values(
     requires tile { tile ≤ 512 }
     requires part { length part.old ≡ length pivots.now * tile }
     requires table { length table.old ≡ 256 * tile }
-    ensures { AreValues (length pivots.now) len (bits_of width words.now) (row_of rows pivots.now)
-        sums.now values.new }
+    ensures { AreValues (length pivots.now) len (bits_of width words.now)
+        (pivot_row rows pivots.now) sums.now values.new }
 {
     let mut start = 0;
     while start < len {
@@ -145,7 +145,7 @@ fn write_tile(
     requires size { size ≤ tile }
     requires end { start + size ≤ len }
     ensures tile { (p t : ℕ) → p < length pivots.now → start ≤ t → t < start + size
-        → IsValue (length pivots.now) len (bits_of width words.now) (row_of rows pivots.now)
+        → IsValue (length pivots.now) len (bits_of width words.now) (pivot_row rows pivots.now)
         sums.now values.new p t }
     ensures others { (p t : ℕ) → p < length pivots.now → t < start
         → byte_in len values.new t p ≡ byte_in len values.old t p }
@@ -183,7 +183,7 @@ fn load_tile(
     requires end { start + size ≤ len }
     requires part { length part.old ≡ length pivots.now * size }
     ensures { (p t : ℕ) → p < length pivots.now → t < size → byte_in size part.new t p
-        ≡ sum_byte sums.now (start + t) (row_of rows pivots.now p) }
+        ≡ sum_byte sums.now (start + t) (pivot_row rows pivots.now p) }
 {
     for p in 0..pivots.len() {
         load_part(rows, pivots[p], sums, start, size, part, p);

@@ -1,8 +1,11 @@
 -- What a generator draws, and the source block of its draws.
-use Rattle.std.proofs.Common.{◌≡◌, ℕ, zero, suc, ◌+◌, ◌*◌, ◌-◌, ◌/◌, ◌%◌, ◌<◌, if◌then◌else◌, List, [], ◌∷◌, ◌++◌, length, All, sym, ap, ap₂, ◌∙◌, subst, arith, add-one, add-mul, one-mul, zero-mul, mod-lt}
+use Rattle.std.proofs.Common.{◌≡◌, ℕ, zero, suc, ◌+◌, ◌*◌, ◌-◌, ◌/◌, ◌%◌, ◌<◌, if◌then◌else◌, List}
+use Rattle.std.proofs.Common.{[], ◌∷◌, ◌++◌, length, All, sym, ap, ap₂, ◌∙◌, subst, arith, add-one}
+use Rattle.std.proofs.Common.{add-mul, one-mul, zero-mul, mod-lt}
 use Rattle.std.specs.List.{range_with_len}
 use Rattle.std.proofs.lemmas.List.Elements.{All-from_get_or}
-use Rattle.std.proofs.lemmas.List.FromFn.{get_or-map-range_with_len, length-map-range_with_len, map-range_with_len_more}
+use Rattle.std.proofs.lemmas.List.FromFn.{get_or-map-range_with_len, length-map-range_with_len}
+use Rattle.std.proofs.lemmas.List.FromFn.{map-range_with_len_more}
 use Rattle.park_miller.specs.Generator.{after, drawn, modulus, multiplier, next}
 use Rattle.sparse_rows.specs.Codeword.{IsEncoded}
 use Rattle.sparse_rows.specs.Laws.{SourceHasCodeword}
@@ -10,7 +13,8 @@ use Rattle.sparse_rows.specs.Matrix.{HasShape}
 use Rattle.sparse_rows.proofs.Symbols.{length_symbols, symbols_are}
 use Rattle.loss_patterns.specs.Keeps.{draws_for, keeps}
 use Rattle.loss_patterns.specs.Order.{order}
-use Rattle.loss_runs.specs.Trials.{Trial, drawn_bytes, items_where, kept_by, loss_start, order_draws, run_draws, source_of, start_of}
+use Rattle.loss_runs.specs.Trials.{Trial, drawn_bytes, items_where, kept_by, loss_start}
+use Rattle.loss_runs.specs.Trials.{order_draws, run_draws, source_of, start_of}
 
 -- so many steps, and then as many again
 pub after-after : (a b state : ℕ) → after a (after b state) ≡ after (b + a) state
@@ -49,7 +53,8 @@ module _ (t : Trial) (r n state mid : ℕ) (state_is : state ≡ start_of t r) (
       → kept ≡ items_where (keeps t.loss mid) sent → kept ≡ kept_by t r
   kept_here sent kept sent_is kept_is = kept_is
       ∙ ap₂ (λ (s : ℕ) (l : List ℕ). items_where (keeps t.loss s) l) mid_here
-      (sent_is ∙ ap₂ (λ (k s : ℕ). if t.random then order k s else range_with_len 0 k) n_is state_is)
+      (sent_is ∙ ap₂ (λ (k s : ℕ). if t.random then order k s else range_with_len 0 k) n_is
+      state_is)
 
   -- and stands then where the next run begins
   pub behind_here : (long last : ℕ) → long ≡ n → last ≡ after (draws_for t.loss long) mid

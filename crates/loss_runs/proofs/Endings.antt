@@ -1,5 +1,6 @@
 -- How runs end: in one way, and in no other.
-use Rattle.std.proofs.Common.{◌≡◌, ℕ, zero, suc, ◌<◌, ◌≤◌, ◌⊎◌, inl, inr, ⊎_elim, Bool, true, ◌&&◌, List, length, take, refl, sym, ap, ap₂, ◌∙◌, subst, arith, bytes_eq}
+use Rattle.std.proofs.Common.{◌≡◌, ℕ, zero, suc, ◌<◌, ◌≤◌, ◌⊎◌, inl, inr, ⊎_elim, Bool, true, ◌&&◌}
+use Rattle.std.proofs.Common.{List, length, take, refl, sym, ap, ap₂, ◌∙◌, subst, arith, bytes_eq}
 use Rattle.std.specs.Cmp.Lexicographic.{pointwise}
 use Rattle.std.proofs.lemmas.Bool.{cases_lt}
 use Rattle.std.proofs.lemmas.Bool.Decides.{Decides-below_and}
@@ -159,5 +160,6 @@ result_of kept end = record { kept = kept; end = end }
 pub run_has_one_result : RunHasOneResult
 run_has_one_result t word r result other first second = ap₂ result_of
     (first.kept ∙ sym second.kept)
-    (end_one t.matrix t.len (source_of t) (arrivals_of t.len word (kept_by t r)) result.end other.end
+    (end_one t.matrix t.len (source_of t) (arrivals_of t.len word (kept_by t r)) result.end
+    other.end
     first.ends second.ends)

@@ -1,5 +1,7 @@
 -- Whether there is a null word.
-use Rattle.std.proofs.Common.{◌≡◌, ◌≢◌, ℕ, ◌+◌, ◌%◌, ◌<◌, ◌≤◌, ◌⊎◌, inl, inr, ⊎_elim, Bool, true, false, not, ◌&&◌, ◌==◌, List, [], ◌∷◌, length, map, All, count_by, Decides, refl, sym, ◌∙◌, subst, arith}
+use Rattle.std.proofs.Common.{◌≡◌, ◌≢◌, ℕ, ◌+◌, ◌%◌, ◌<◌, ◌≤◌, ◌⊎◌, inl, inr, ⊎_elim, Bool, true}
+use Rattle.std.proofs.Common.{false, not, ◌&&◌, ◌==◌, List, [], ◌∷◌, length, map, All, count_by}
+use Rattle.std.proofs.Common.{Decides, refl, sym, ◌∙◌, subst, arith}
 use Rattle.std.specs.List.{range_with_len}
 use Rattle.std.proofs.lemmas.Bool.{cases_lt, false_from_ne_true}
 use Rattle.std.proofs.lemmas.Bool.Decides.{Decides-by_and, Decides-eqb}
@@ -72,7 +74,8 @@ module _ (m : Matrix) (s : Set) where
 
   bit_is : (word : List ℕ) (c : ℕ) → c < m.n → flagged (bits_of word) c ≡ is_in word c
   bit_is word c lt =
-      get_or-map-range_with_len (is_in word) 0 m.n c c false lt (let e : 0 + c ≡ c = omega arith in e)
+      get_or-map-range_with_len (is_in word) 0 m.n c c false lt (let e : 0 + c ≡ c = omega arith in
+      e)
 
   -- no column of it is past the end
   none_past : (word : List ℕ) → All (λ c. c < m.n) word → (c : ℕ) → m.n ≤ c → is_in word c ≡ false
@@ -88,7 +91,8 @@ module _ (m : Matrix) (s : Set) where
       (cases_lt c m.n))
 
   -- there is a null word, or there is none
-  pub null_or_none : ((word : List ℕ) × IsNullWord m s word) ⊎ ((word : List ℕ) → ¬ IsNullWord m s word)
+  pub null_or_none : ((word : List ℕ) × IsNullWord m s word) ⊎ ((word : List ℕ)
+      → ¬ IsNullWord m s word)
   null_or_none = ⊎_elim
       (λ (f : (bits : List Bool) × Nulls (columns bits)). inl (columns f.0, is_null f.0 f.1))
       (λ (none : (bits : List Bool) → length bits ≡ m.n → ¬ Nulls (columns bits)). inr (λ word null.

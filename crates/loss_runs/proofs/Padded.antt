@@ -1,5 +1,7 @@
 -- The results of runs that were not made, and the text of all.
-use Rattle.std.proofs.Common.{◌≡◌, ℕ, zero, suc, ◌+◌, ◌<◌, ◌≤◌, ◌-◌, ⊎_elim, List, [], ◌∷◌, ◌++◌, length, slice_index_or, Option, refl, sym, ap, ◌∙◌, subst, arith, append_assoc, append-nil, length-append, eq-or-lt_of_le}
+use Rattle.std.proofs.Common.{◌≡◌, ℕ, zero, suc, ◌+◌, ◌<◌, ◌≤◌, ◌-◌, ⊎_elim, List, [], ◌∷◌, ◌++◌}
+use Rattle.std.proofs.Common.{length, slice_index_or, Option, refl, sym, ap, ◌∙◌, subst, arith}
+use Rattle.std.proofs.Common.{append_assoc, append-nil, length-append, eq-or-lt_of_le}
 use Rattle.std.specs.Io.KnownBytes.{Appends}
 use Rattle.std.proofs.KnownBytes.{Appends-nil, Appends-trans}
 use Rattle.std.proofs.lemmas.List.{get_or_append_left, get_or_push}
@@ -26,7 +28,8 @@ pub first_more : (t : Trial) (word : List (List ℕ)) (results : List RunResult)
 first_more t word results made are is r d lt = ⊎_elim
     (λ (same : r ≡ length results). subst (λ (n : ℕ). IsRunOf t word n
     (slice_index_or (results ++ made ∷ []) n d)) (sym same)
-    (subst (IsRunOf t word (length results)) (sym (get_or_push results made d (length results) refl))
+    (subst (IsRunOf t word (length results))
+    (sym (get_or_push results made d (length results) refl))
     is))
     (λ (less : r < length results). subst (IsRunOf t word r)
     (sym (get_or_append_left results (made ∷ []) d r less)) (are r d less))

@@ -1,5 +1,7 @@
 -- The items of a list whose places pass a test.
-use Rattle.std.proofs.Common.{◌≡◌, ℕ, zero, suc, ◌+◌, ◌<◌, Bool, true, false, cond, List, [], ◌∷◌, ◌++◌, length, get_or, take, map, filter, All, refl, sym, ap, ◌∙◌, arith}
+use Rattle.std.proofs.Common.{◌≡◌, ℕ, zero, suc, ◌+◌, ◌<◌, Bool, true, false, cond, List, [], ◌∷◌}
+use Rattle.std.proofs.Common.{◌++◌, length, get_or, take, map, filter, All, refl, sym, ap, ◌∙◌}
+use Rattle.std.proofs.Common.{arith}
 use Rattle.std.specs.List.{enumerate_from}
 use Rattle.std.proofs.lemmas.List.{map-append}
 use Rattle.std.proofs.lemmas.List.Elements.{All-cons, All-head, All-nil, All-tail, filter_more}
@@ -34,7 +36,8 @@ items_more test xs i d lt =
     get_or-enumerate_from 0 xs i (0, d) lt
     ∙ ap (λ (k : ℕ). (k, get_or xs i d)) (let e : 0 + i ≡ i = omega arith in e) in
     let long : i < length pairs = omega (arith, lt, length-enumerate_from 0 xs) in
-    let front : take (i + 1) pairs ≡ enumerate_from 0 (take (i + 1) xs) = take-enumerate 0 (i + 1) xs in
+    let front : take (i + 1) pairs ≡ enumerate_from 0 (take (i + 1) xs) = take-enumerate 0 (i + 1)
+    xs in
     let before : take i pairs ≡ enumerate_from 0 (take i xs) = take-enumerate 0 i xs in
     ap (λ l. map item (filter passes l)) (sym front)
     ∙ ap (map item) (filter_more passes pairs i (0, d) long)
@@ -42,7 +45,8 @@ items_more test xs i d lt =
     (cond (passes (get_or pairs i (0, d))) (get_or pairs i (0, d) ∷ []) [])
     ∙ ap (λ l. map item (filter passes l)
     ++ map item (cond (passes (get_or pairs i (0, d))) (get_or pairs i (0, d) ∷ []) [])) before
-    ∙ ap (λ (p : ℕ × ℕ). items_where test (take i xs) ++ map item (cond (passes p) (p ∷ []) [])) here
+    ∙ ap (λ (p : ℕ × ℕ). items_where test (take i xs) ++ map item (cond (passes p) (p ∷ []) []))
+    here
     ∙ ap (λ l. items_where test (take i xs) ++ l) (map_cond (test i) (i, get_or xs i d))
 
 -- what holds of all items holds of these
@@ -54,7 +58,8 @@ all_from P test n (x ∷ xs) all = by_case (test n)
       by_case : (b : Bool) → All P (map item (filter (λ p. test p.0) (enumerate_from (n + 1) xs)))
           → All P (map item (cond b ((n, x) ∷ filter (λ p. test p.0) (enumerate_from (n + 1) xs))
           (filter (λ p. test p.0) (enumerate_from (n + 1) xs))))
-      by_case true tail = All-cons P x (map item (filter (λ p. test p.0) (enumerate_from (n + 1) xs)))
+      by_case true tail = All-cons P x
+          (map item (filter (λ p. test p.0) (enumerate_from (n + 1) xs)))
           (All-head P x xs all) tail
       by_case false tail = tail
 

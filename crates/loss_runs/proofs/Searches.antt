@@ -1,5 +1,7 @@
 -- Searches that end: for the least number, and for a list of truth values.
-use Rattle.std.proofs.Common.{◌≡◌, ℕ, zero, suc, ◌<◌, ◌≤◌, ◌⊎◌, inl, inr, ⊎_elim, Bool, true, false, List, [], ◌∷◌, length, Decides, refl, sym, arith, eq-or-lt_of_le, subst}
+use Rattle.std.proofs.Common.{◌≡◌, ℕ, zero, suc, ◌<◌, ◌≤◌, ◌⊎◌, inl, inr, ⊎_elim, Bool, true, false}
+use Rattle.std.proofs.Common.{List, [], ◌∷◌, length, Decides, refl, sym, arith, eq-or-lt_of_le}
+use Rattle.std.proofs.Common.{subst}
 
 -- what a test decides holds, or it doesn't
 pub holds_or_not : (P : Type 0) (test : Bool) → Decides test P → P ⊎ (¬ P)

@@ -230,7 +230,6 @@ module _ (m : Matrix) (shape : HasShape m) (len : ℕ) (arrivals : List Arrival)
     word = word;
     other = second;
     word_fits = fitting;
-    other_fits =
-        second_fits;
+    other_fits = second_fits;
     differ = second_differs h;
   }

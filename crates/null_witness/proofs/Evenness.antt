@@ -1,8 +1,10 @@
 -- Counting columns of a row, odd or even.
-use Rattle.std.proofs.Common.{◌≡◌, ℕ, ◌+◌, ◌%◌, ◌↔◌, Bool, true, false, not, cond, IsTrue, refl, arith}
+use Rattle.std.proofs.Common.{◌≡◌, ℕ, ◌+◌, ◌%◌, ◌↔◌, Bool, true, false, not, cond, IsTrue, refl}
+use Rattle.std.proofs.Common.{arith}
 
 -- one more turns it
-pub turned : (count : ℕ) (even : Bool) → count % 2 ≡ cond even 0 1 → (count + 1) % 2 ≡ cond (not even) 0 1
+pub turned : (count : ℕ) (even : Bool) → count % 2 ≡ cond even 0 1
+    → (count + 1) % 2 ≡ cond (not even) 0 1
 turned count true e = omega arith
 turned count false e = omega arith
 

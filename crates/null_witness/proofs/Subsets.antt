@@ -11,23 +11,27 @@ use Rattle.sparse_rows.proofs.Closed.{agree_closure}
 use Rattle.sparse_rows.proofs.Null.{all_from_in, in_all, null_even, null_outside}
 
 -- a null word of a set is one of each subset
-pub null_subset : (m : Matrix) (small large : Set) (word : List ℕ) → IsWithin small large → IsNullWord m large word → IsNullWord m small word
+pub null_subset : (m : Matrix) (small large : Set) (word : List ℕ) → IsWithin small large
+    → IsNullWord m large word → IsNullWord m small word
 null_subset m small large word h null = record {
   rising = null.rising;
   below = null.below;
   nonempty = null.nonempty;
   even = null.even;
-  outside = all_from_in (λ d. small d ≡ false) word (λ d f. false_from_ne_true (small d) (λ g. true≢false (sym (h d g) ∙ in_all (λ e. large e ≡ false) word null.outside d f)));
+  outside = all_from_in (λ d. small d ≡ false) word (λ d f. false_from_ne_true (small d)
+      (λ g. true≢false (sym (h d g) ∙ in_all (λ e. large e ≡ false) word null.outside d f)));
 }
 
 -- a null word has no column in the closure
-pub null_closure : (m : Matrix) (s : Set) (word : List ℕ) → IsNullWord m s word → IsNullWord m (closure m s) word
+pub null_closure : (m : Matrix) (s : Set) (word : List ℕ) → IsNullWord m s word
+    → IsNullWord m (closure m s) word
 null_closure m s word null = record {
   rising = null.rising;
   below = null.below;
   nonempty = null.nonempty;
   even = null.even;
-  outside = all_from_in (λ d. closure m s d ≡ false) word (λ d f. false_from_ne_true (closure m s d) (λ g. true≢false (sym f ∙ not_in d g)));
+  outside = all_from_in (λ d. closure m s d ≡ false) word (λ d f. false_from_ne_true (closure m s d)
+      (λ g. true≢false (sym f ∙ not_in d g)));
 }
   where
     not_in : (d : ℕ) → closure m s d ≡ true → is_in word d ≡ false

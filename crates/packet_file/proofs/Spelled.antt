@@ -1,5 +1,8 @@
 -- Headers and packets as bytes.
-use Rattle.std.proofs.Common.{◌≡◌, ℕ, ◌+◌, ◌<◌, List, [], ◌∷◌, ◌++◌, length, take, drop, slice_index, codes, sym, ap, ap₂, ◌∙◌, subst, arith, length-append, take-append-drop, length-take-le, length-drop, Option, Result, Ok, Err, IfOk, IfErr, OnErr}
+use Rattle.std.proofs.Common.{◌≡◌, ℕ, ◌+◌, ◌<◌, List, [], ◌∷◌, ◌++◌, length, take, drop}
+use Rattle.std.proofs.Common.{slice_index, codes, sym, ap, ap₂, ◌∙◌, subst, arith, length-append}
+use Rattle.std.proofs.Common.{take-append-drop, length-take-le, length-drop, Option, Result, Ok}
+use Rattle.std.proofs.Common.{Err, IfOk, IfErr, OnErr}
 use Rattle.std.specs.Io.KnownBytes.{Appends}
 use Rattle.std.proofs.KnownBytes.{Appends-trans}
 use Rattle.std.proofs.Math.Seq.{drop-cons, take-append-add, take-append-le}
@@ -15,15 +18,22 @@ use Rattle.packet_file.specs.Laws.{PacketIsSpelled}
 use Rattle.packet_file.specs.declared.fault.FileFault.TheVariants.{BadReserved}
 
 -- a failure leaves a front, also of what comes behind
-pub cut_longer : (held now : Option (List ℕ)) (xs ys : List ℕ) → AppendsFront held now xs → AppendsFront held now (xs ++ ys)
-cut_longer held now xs ys cut = (cut.0, omega (arith, length-append xs ys, cut.1), subst (Appends held now) (sym (take-append-le cut.0 xs ys (omega (arith, cut.1)))) cut.2)
+pub cut_longer : (held now : Option (List ℕ)) (xs ys : List ℕ) → AppendsFront held now xs
+    → AppendsFront held now (xs ++ ys)
+cut_longer held now xs ys cut = (
+  cut.0,
+  omega (arith, length-append xs ys, cut.1),
+  subst (Appends held now) (sym (take-append-le cut.0 xs ys (omega (arith, cut.1)))) cut.2,
+)
 
 -- a failure behind a piece leaves a front of both
-pub cut_behind : (held mid now : Option (List ℕ)) (first second : List ℕ) → Appends held mid first → AppendsFront mid now second → AppendsFront held now (first ++ second)
+pub cut_behind : (held mid now : Option (List ℕ)) (first second : List ℕ) → Appends held mid first
+    → AppendsFront mid now second → AppendsFront held now (first ++ second)
 cut_behind held mid now first second whole cut = (
   length first + cut.0,
   omega (arith, length-append first second, cut.1),
-  subst (Appends held now) (sym (take-append-add first second cut.0)) (Appends-trans held mid now first (take cut.0 second) whole cut.2),
+  subst (Appends held now) (sym (take-append-add first second cut.0))
+      (Appends-trans held mid now first (take cut.0 second) whole cut.2),
 )
 
 -- a fact that stands however a call ended
@@ -36,43 +46,64 @@ pub packet_spelled : IdIsSpelled → PacketIsSpelled
 packet_spelled id_spelled bytes len long all =
     let four : length (take 4 bytes) ≡ 4 = length-take-le 4 bytes (omega (arith, long)) in
     let id = id_spelled (take 4 bytes) four (All-take (λ byte. byte < 256) 4 bytes all) in
-    let rest : length (drop 4 bytes) ≡ len = omega (arith, length-drop 4 bytes, long) in
-    (id.0, drop 4 bytes, id.1, rest, sym (take-append-drop 4 bytes) ∙ ap (λ front. front ++ drop 4 bytes) id.2)
+    let rest : length (drop 4 bytes) ≡ len = omega (arith, length-drop 4 bytes, long) in (
+      id.0,
+      drop 4 bytes,
+      id.1,
+      rest,
+      sym (take-append-drop 4 bytes)
+          ∙ ap (λ front. front ++ drop 4 bytes) id.2,
+    )
 
 -- eight bytes in front of a header's fields
 pub eight_bytes : (bytes : List ℕ) → length bytes ≡ 26 → take 4 bytes ≡ codes "OFPK"
-    → bytes ≡ codes "OFPK" ++ slice_index bytes 4 ∷ slice_index bytes 5 ∷ slice_index bytes 6 ∷ slice_index bytes 7 ∷ drop 8 bytes
+    → bytes ≡ codes "OFPK" ++ slice_index bytes 4 ∷ slice_index bytes 5 ∷ slice_index bytes
+    6 ∷ slice_index bytes 7 ∷ drop 8 bytes
 eight_bytes bytes long magic =
-    let fifth : drop 4 bytes ≡ slice_index bytes 4 ∷ drop 5 bytes = drop-cons bytes 4 0 (omega (arith, long)) in
-    let sixth : drop 5 bytes ≡ slice_index bytes 5 ∷ drop 6 bytes = drop-cons bytes 5 0 (omega (arith, long)) in
-    let seventh : drop 6 bytes ≡ slice_index bytes 6 ∷ drop 7 bytes = drop-cons bytes 6 0 (omega (arith, long)) in
-    let eighth : drop 7 bytes ≡ slice_index bytes 7 ∷ drop 8 bytes = drop-cons bytes 7 0 (omega (arith, long)) in
-    let behind : drop 4 bytes ≡ slice_index bytes 4 ∷ slice_index bytes 5 ∷ slice_index bytes 6 ∷ slice_index bytes 7 ∷ drop 8 bytes =
-    fifth ∙ ap (λ l. slice_index bytes 4 ∷ l) (sixth ∙ ap (λ l. slice_index bytes 5 ∷ l) (seventh ∙ ap (λ l. slice_index bytes 6 ∷ l) eighth)) in
+    let fifth : drop 4 bytes ≡ slice_index bytes 4 ∷ drop 5 bytes =
+    drop-cons bytes 4 0 (omega (arith, long)) in
+    let sixth : drop 5 bytes ≡ slice_index bytes 5 ∷ drop 6 bytes =
+    drop-cons bytes 5 0 (omega (arith, long)) in
+    let seventh : drop 6 bytes ≡ slice_index bytes 6 ∷ drop 7 bytes =
+    drop-cons bytes 6 0 (omega (arith, long)) in
+    let eighth : drop 7 bytes ≡ slice_index bytes 7 ∷ drop 8 bytes =
+    drop-cons bytes 7 0 (omega (arith, long)) in
+    let behind : drop 4 bytes ≡ slice_index bytes 4 ∷ slice_index bytes 5 ∷ slice_index bytes
+    6 ∷ slice_index bytes 7 ∷ drop 8 bytes =
+    fifth ∙ ap (λ l. slice_index bytes 4 ∷ l) (sixth ∙ ap (λ l. slice_index bytes 5 ∷ l) (seventh
+    ∙ ap (λ l. slice_index bytes 6 ∷ l) eighth)) in
     sym (take-append-drop 4 bytes) ∙ ap₂ (λ front rest. front ++ rest) magic behind
 
 -- bytes with the magic, the version and a codec, and then two bytes that aren't both zero
-pub not_reserved : (bytes : List ℕ) (codec : Codec) → length bytes ≡ 26 → take 4 bytes ≡ codes "OFPK" → slice_index bytes 4 ≡ 1 → codec_number codec ≡ slice_index bytes 5
+pub not_reserved : (bytes : List ℕ) (codec : Codec) → length bytes ≡ 26
+    → take 4 bytes ≡ codes "OFPK" → slice_index bytes 4 ≡ 1
+    → codec_number codec ≡ slice_index bytes 5
     → AreNotZero (slice_index bytes 6) (slice_index bytes 7) → HasHeaderFault bytes BadReserved
 not_reserved bytes codec long magic version number not_zero =
     let a : ℕ = slice_index bytes 6 in
     let b : ℕ = slice_index bytes 7 in
     let is : bytes ≡ codes "OFPK" ++ 1 ∷ codec_number codec ∷ a ∷ b ∷ drop 8 bytes =
-    eight_bytes bytes long magic ∙ ap₂ (λ v n. codes "OFPK" ++ v ∷ n ∷ a ∷ b ∷ drop 8 bytes) version (sym number) in
+    eight_bytes bytes long magic ∙ ap₂ (λ v n. codes "OFPK" ++ v ∷ n ∷ a ∷ b ∷ drop 8 bytes) version
+    (sym number) in
     (long, codec, a, b, drop 8 bytes, is, not_zero)
 
 -- eight bytes without a fault, and the fields behind them
-pub header_joined : (bytes fields : List ℕ) (h : HeaderFields) → length bytes ≡ 26 → take 8 bytes ≡ codes "OFPK" ++ 1 ∷ codec_number h.codec ∷ 0 ∷ 0 ∷ []
+pub header_joined : (bytes fields : List ℕ) (h : HeaderFields) → length bytes ≡ 26
+    → take 8 bytes ≡ codes "OFPK" ++ 1 ∷ codec_number h.codec ∷ 0 ∷ 0 ∷ []
     → fields ≡ take 18 (drop 8 bytes) → fields ≡ oti_bytes h.oti → bytes ≡ header_bytes h
 header_joined bytes fields h long front rest spelled =
-    let all : take 18 (drop 8 bytes) ≡ drop 8 bytes = take_all 18 (drop 8 bytes) (omega (arith, length-drop 8 bytes, long)) in
-    sym (take-append-drop 8 bytes) ∙ ap₂ (λ before after. before ++ after) front (sym all ∙ sym rest ∙ spelled)
+    let all : take 18 (drop 8 bytes) ≡ drop 8 bytes = take_all 18 (drop 8 bytes)
+    (omega (arith, length-drop 8 bytes, long)) in
+    sym (take-append-drop 8 bytes) ∙ ap₂ (λ before after. before ++ after) front (sym all ∙ sym rest
+    ∙ spelled)
 
 -- what holds of an answer, and what follows from it
-pub if_ok : {T E : Type 0} (r : Result T E) (P Q : T → Type 0) → ((x : T) → P x → Q x) → IfOk r P → IfOk r Q
+pub if_ok : {T E : Type 0} (r : Result T E) (P Q : T → Type 0) → ((x : T) → P x → Q x) → IfOk r P
+    → IfOk r Q
 if_ok (Ok x) P Q follows p = follows x p
 if_ok (Err e) P Q follows p = tt
 
-pub if_err : {T E : Type 0} (r : Result T E) (P Q : E → Type 0) → ((e : E) → P e → Q e) → IfErr r P → IfErr r Q
+pub if_err : {T E : Type 0} (r : Result T E) (P Q : E → Type 0) → ((e : E) → P e → Q e) → IfErr r P
+    → IfErr r Q
 if_err (Ok x) P Q follows p = tt
 if_err (Err e) P Q follows p = follows e p

@@ -1,5 +1,6 @@
 -- How many of the first packets are kept.
-use Rattle.std.proofs.Common.{◌≡◌, ℕ, ◌+◌, ◌≤◌, Bool, true, false, cond, List, refl, sym, ap, ◌∙◌, arith}
+use Rattle.std.proofs.Common.{◌≡◌, ℕ, ◌+◌, ◌≤◌, Bool, true, false, cond, List, refl, sym, ap, ◌∙◌}
+use Rattle.std.proofs.Common.{arith}
 use mir.Val.{bool_byte}
 use Rattle.std.specs.List.{count_by, range_with_len}
 use Rattle.std.proofs.lemmas.List.{map-id}
@@ -27,10 +28,13 @@ byte_small true = omega arith
 byte_small false = omega arith
 
 -- one decision more
-pub kept_next : (kind : LossKind) (seed n kept : ℕ) (keep : Bool) → keep ≡ keeps kind seed n → kept ≡ kept_of kind seed n → kept + bool_byte keep ≡ kept_of kind seed (n + 1)
+pub kept_next : (kind : LossKind) (seed n kept : ℕ) (keep : Bool) → keep ≡ keeps kind seed n
+    → kept ≡ kept_of kind seed n → kept + bool_byte keep ≡ kept_of kind seed (n + 1)
 kept_next kind seed n kept keep is before =
-    let byte : bool_byte keep ≡ cond (keeps kind seed n) 1 0 = byte_of keep ∙ ap (λ b. cond b 1 0) is in
-    let sum : kept + bool_byte keep ≡ kept_of kind seed n + cond (keeps kind seed n) 1 0 = omega (arith, byte, before) in
+    let byte : bool_byte keep ≡ cond (keeps kind seed n) 1 0 = byte_of keep
+    ∙ ap (λ b. cond b 1 0) is in
+    let sum : kept + bool_byte keep ≡ kept_of kind seed n + cond (keeps kind seed n) 1 0 =
+    omega (arith, byte, before) in
     sum ∙ sym (count_more (keeps kind seed) n)
 
 pub kept_within : (keep : Bool) (kept n : ℕ) → kept ≤ n → kept + bool_byte keep ≤ n + 1

@@ -9,16 +9,16 @@ use Rattle.packet_file.specs.Header.{HeaderFields, source_counts}
 use Rattle.packet_file.specs.Packets.{Packet}
 
 -- the name of a code and its parameters: N1 and the seed, or the width of the grid
-abbrev pub code_by : Codec → Oti → List ℕ
-code_by Staircase oti = codes "codec staircase n1 " ++ decimal (oti.n1m3 + 3)
+abbrev pub codec_text : Codec → Oti → List ℕ
+codec_text Staircase oti = codes "codec staircase n1 " ++ decimal (oti.n1m3 + 3)
     ++ codes " seed " ++ decimal oti.seed
-code_by Triangle oti = codes "codec triangle n1 " ++ decimal (oti.n1m3 + 3)
+codec_text Triangle oti = codes "codec triangle n1 " ++ decimal (oti.n1m3 + 3)
     ++ codes " seed " ++ decimal oti.seed
-code_by Parity2d oti = codes "codec 2d width " ++ decimal oti.seed
+codec_text Parity2d oti = codes "codec 2d width " ++ decimal oti.seed
 
 -- the line of a header: its code, its fields, and the number of its source blocks
 abbrev pub header_line : HeaderFields → List ℕ
-header_line h = code_by h.codec h.oti
+header_line h = codec_text h.codec h.oti
     ++ codes " length " ++ decimal h.oti.length ++ codes " symbol " ++ decimal h.oti.symbol
     ++ codes " block " ++ decimal h.oti.block ++ codes " max " ++ decimal h.oti.max_n
     ++ codes " blocks " ++ decimal (length (source_counts h)) ++ codes "\n"

@@ -1,7 +1,7 @@
 // Lines of text, each put together before it is written.
 ghost use Rattle.std.specs.Prelude.{◌≡◌, ◌+◌, ◌≤◌, ◌++◌, [], length, decimal, IfOk};
 ghost use Rattle.packet_file.specs.Packets.{IsIdOf};
-ghost use Rattle.packet_pass.specs.Lines.{code_by, header_line, packet_line, shown};
+ghost use Rattle.packet_pass.specs.Lines.{codec_text, header_line, packet_line, shown};
 
 use hex::encode_to_slice;
 use itoa::Buffer;
@@ -95,7 +95,7 @@ pub fn put_header_line(line: &mut Line, header: &Header)
 // Puts the name of the code and its parameters into an empty line.
 fn put_code(line: &mut Line, codec: Codec, oti: &Oti)
     requires { line.old ≡ [] }
-    ensures value { line.new ≡ code_by codec oti.now }
+    ensures value { line.new ≡ codec_text codec oti.now }
     ensures bound { length line.new ≤ 120 }
 {
     let n1 = oti.n1m3 as u64 + 3;

@@ -6,7 +6,8 @@ use Rattle.std.proofs.lemmas.Grind.{div_ceil_times}
 
 -- each source symbol lies in one of the grid's rows
 pub row_inside : (k w c : ℕ) → 1 ≤ w → c < k → c / w < div_ceil k w
-row_inside k w c wide lt = let bound = div_ceil_times k w wide in (div-lt_iff_lt-mul {k = w} {x = c} {y = div_ceil k w} wide).1 (omega arith)
+row_inside k w c wide lt = let bound = div_ceil_times k w wide in
+    (div-lt_iff_lt-mul {k = w} {x = c} {y = div_ceil k w} wide).1 (omega arith)
 
 -- and in one of its columns
 pub column_inside : (k w c : ℕ) → 1 ≤ w → c < k → c % w < min w k

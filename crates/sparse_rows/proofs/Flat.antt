@@ -1,8 +1,11 @@
 -- Rows that lie one after the other in one list of columns.
-use Rattle.std.proofs.Common.{◌≡◌, ℕ, zero, suc, ◌+◌, ◌-◌, ◌<◌, ◌≤◌, List, [], ◌∷◌, ◌++◌, All, length, take, drop, get_or, sum_by, refl, sym, ap, ap₂, ◌∙◌, subst, arith, le_of_eq, suc-add, add-one, length-append, length-drop}
+use Rattle.std.proofs.Common.{◌≡◌, ℕ, zero, suc, ◌+◌, ◌-◌, ◌<◌, ◌≤◌, List, [], ◌∷◌, ◌++◌, All}
+use Rattle.std.proofs.Common.{length, take, drop, get_or, sum_by, refl, sym, ap, ap₂, ◌∙◌, subst}
+use Rattle.std.proofs.Common.{arith, le_of_eq, suc-add, add-one, length-append, length-drop}
 use Rattle.std.specs.List.Sorted.{IsStrictlyIncreasing}
 use Rattle.std.proofs.Math.Seq.{take-length}
-use Rattle.std.proofs.lemmas.List.{length-take-le, take-append-le, drop-append-le, drop_all, get_or_append_left, take_more, map-append}
+use Rattle.std.proofs.lemmas.List.{length-take-le, take-append-le, drop-append-le, drop_all}
+use Rattle.std.proofs.lemmas.List.{get_or_append_left, take_more, map-append}
 use Rattle.std.proofs.lemmas.List.Sums.{sum_by-cons}
 use Rattle.smallvec.specs.SmallVec.{SmallVec}
 use Rattle.sparse_rows.specs.declared.code.Code.TheInside.{Inside}
@@ -26,32 +29,38 @@ pub record IsRowAt (starts columns row : List ℕ) (r : ℕ) : Type 0 where
   pub room : r + 1 < length starts
   pub rise : get_or starts r 0 ≤ get_or starts (r + 1) 0
   pub within : get_or starts (r + 1) 0 ≤ length columns
-  pub is : row ≡ take (get_or starts (r + 1) 0 - get_or starts r 0) (drop (get_or starts r 0) columns)
+  pub is : row ≡ take (get_or starts (r + 1) 0 - get_or starts r 0)
+      (drop (get_or starts r 0) columns)
 
 -- what the starts are index by index, they are from one to the next, and the other way round
 
-pub rises_to : (starts : List ℕ) (end : ℕ) → 0 < length starts → ((i : ℕ) → i + 1 < length starts → get_or starts i 0 ≤ get_or starts (i + 1) 0)
+pub rises_to : (starts : List ℕ) (end : ℕ) → 0 < length starts → ((i : ℕ) → i + 1 < length starts
+    → get_or starts i 0 ≤ get_or starts (i + 1) 0)
     → get_or starts (length starts - 1) 0 ≡ end → RisesTo end starts
 rises_to [] end some rising last = absurd (omega arith)
 rises_to (a ∷ []) end some rising last = last
 rises_to (a ∷ b ∷ starts) end some rising last =
     let before : length (a ∷ b ∷ starts) - 1 ≡ suc (length (b ∷ starts) - 1) = omega arith in (
       rising 0 (omega arith),
-      rises_to (b ∷ starts) end (omega arith) (λ i lt. rw suc-add at (rising (suc i) (omega (arith, lt))))
+      rises_to (b ∷ starts) end (omega arith)
+          (λ i lt. rw suc-add at (rising (suc i) (omega (arith, lt))))
           (subst (λ k. get_or (a ∷ b ∷ starts) k 0 ≡ end) before last),
     )
 
-pub rises_at : (starts : List ℕ) (end : ℕ) → RisesTo end starts → (i : ℕ) → i + 1 < length starts → get_or starts i 0 ≤ get_or starts (i + 1) 0
+pub rises_at : (starts : List ℕ) (end : ℕ) → RisesTo end starts → (i : ℕ) → i + 1 < length starts
+    → get_or starts i 0 ≤ get_or starts (i + 1) 0
 rises_at [] end h i lt = absurd h
 rises_at (a ∷ []) end h i lt = absurd (omega arith)
 rises_at (a ∷ b ∷ starts) end h zero lt = h.0
-rises_at (a ∷ b ∷ starts) end h (suc i) lt = rw suc-add (rises_at (b ∷ starts) end h.1 i (omega arith))
+rises_at (a ∷ b ∷ starts) end h (suc i) lt =
+    rw suc-add (rises_at (b ∷ starts) end h.1 i (omega arith))
 
 pub rises_some : (starts : List ℕ) (end : ℕ) → RisesTo end starts → 0 < length starts
 rises_some [] end h = absurd h
 rises_some (a ∷ starts) end h = omega arith
 
-pub rises_last : (starts : List ℕ) (end : ℕ) → RisesTo end starts → get_or starts (length starts - 1) 0 ≡ end
+pub rises_last : (starts : List ℕ) (end : ℕ) → RisesTo end starts
+    → get_or starts (length starts - 1) 0 ≡ end
 rises_last [] end h = absurd h
 rises_last (a ∷ []) end h = h
 rises_last (a ∷ b ∷ starts) end h =
@@ -59,14 +68,17 @@ rises_last (a ∷ b ∷ starts) end h =
     subst (λ k. get_or (a ∷ b ∷ starts) k 0 ≡ end) before (rises_last (b ∷ starts) end h.1)
 
 -- a start is at most the end
-pub start_within : (start : ℕ) (starts : List ℕ) (end : ℕ) → RisesTo end (start ∷ starts) → start ≤ end
+pub start_within : (start : ℕ) (starts : List ℕ) (end : ℕ) → RisesTo end (start ∷ starts)
+    → start ≤ end
 start_within start [] end h = le_of_eq h
 start_within start (next ∷ starts) end h = omega (arith, h.0, start_within next starts end h.1)
 
-pub starts_rise : (starts columns : List ℕ) → AreStarts starts columns → RisesTo (length columns) starts
+pub starts_rise : (starts columns : List ℕ) → AreStarts starts columns
+    → RisesTo (length columns) starts
 starts_rise starts columns h = rises_to starts (length columns) h.some h.rising h.last
 
-pub laid_starts : (starts columns : List ℕ) (rows : List (List ℕ)) → AreLaid starts columns rows → AreStarts starts columns
+pub laid_starts : (starts columns : List ℕ) (rows : List (List ℕ)) → AreLaid starts columns rows
+    → AreStarts starts columns
 laid_starts starts columns rows h = record {
   some = rises_some starts (length columns) h.rises;
   first = h.first;
@@ -77,79 +89,125 @@ laid_starts starts columns rows h = record {
 -- one row more
 
 -- a later end, put behind the starts
-rises_push : (starts : List ℕ) (end later : ℕ) → RisesTo end starts → end ≤ later → RisesTo later (starts ++ later ∷ [])
+rises_push : (starts : List ℕ) (end later : ℕ) → RisesTo end starts → end ≤ later
+    → RisesTo later (starts ++ later ∷ [])
 rises_push [] end later h le = absurd h
 rises_push (a ∷ []) end later h le = (omega (arith, h), refl)
 rises_push (a ∷ b ∷ starts) end later h le = (h.0, rises_push (b ∷ starts) end later h.1 le)
 
 -- a row put behind the columns, and their new end behind the starts
-rows_push : (starts columns row : List ℕ) → RisesTo (length columns) starts → rows_of (starts ++ length (columns ++ row) ∷ []) (columns ++ row) ≡ rows_of starts columns ++ row ∷ []
+rows_push : (starts columns row : List ℕ) → RisesTo (length columns) starts
+    → rows_of (starts ++ length (columns ++ row) ∷ []) (columns ++ row) ≡ rows_of starts columns
+    ++ row ∷ []
 rows_push [] columns row h = absurd h
 rows_push (a ∷ []) columns row h =
-    let rest : drop a (columns ++ row) ≡ row = drop-append-le a columns row (le_of_eq h) ∙ ap (λ xs. xs ++ row) (drop_all a columns (le_of_eq (sym h))) in
-    let long : length (columns ++ row) - a ≡ length row = omega (arith, length-append columns row, h) in
+    let rest : drop a (columns ++ row) ≡ row = drop-append-le a columns row (le_of_eq h)
+    ∙ ap (λ xs. xs ++ row) (drop_all a columns (le_of_eq (sym h))) in
+    let long : length (columns ++ row) - a ≡ length row =
+    omega (arith, length-append columns row, h) in
     ap (λ xs. xs ∷ []) (ap₂ take long rest ∙ take-length row)
 rows_push (a ∷ b ∷ starts) columns row h =
     let b_within : b ≤ length columns = start_within b starts (length columns) h.1 in
-    let same : drop a (columns ++ row) ≡ drop a columns ++ row = drop-append-le a columns row (omega (arith, h.0)) in
-    ap₂ ◌∷◌ (ap (take (b - a)) same ∙ take-append-le (b - a) (drop a columns) row (omega (arith, length-drop a columns))) (rows_push (b ∷ starts) columns row h.1)
+    let same : drop a (columns ++ row) ≡ drop a columns ++ row = drop-append-le a columns row
+    (omega (arith, h.0)) in
+    ap₂ ◌∷◌ (ap (take (b - a)) same ∙ take-append-le (b - a) (drop a columns) row
+    (omega (arith, length-drop a columns))) (rows_push (b ∷ starts) columns row h.1)
 
-pub laid_more : (starts columns row : List ℕ) (rows : List (List ℕ)) → AreLaid starts columns rows → AreLaid (starts ++ length (columns ++ row) ∷ []) (columns ++ row) (rows ++ row ∷ [])
+pub laid_more : (starts columns row : List ℕ) (rows : List (List ℕ)) → AreLaid starts columns rows
+    → AreLaid (starts ++ length (columns ++ row) ∷ []) (columns ++ row) (rows ++ row ∷ [])
 laid_more starts columns row rows h = record {
-  first = get_or_append_left starts (length (columns ++ row) ∷ []) 0 0 (rises_some starts (length columns) h.rises) ∙ h.first;
-  rises = rises_push starts (length columns) (length (columns ++ row)) h.rises (omega (arith, length-append columns row));
+  first = get_or_append_left starts (length (columns ++ row) ∷ []) 0 0
+      (rises_some starts (length columns) h.rises) ∙ h.first;
+  rises = rises_push starts (length columns) (length (columns ++ row)) h.rises
+      (omega (arith, length-append columns row));
   are = rows_push starts columns row h.rises ∙ ap (λ rows. rows ++ row ∷ []) h.are;
 }
 
 -- one more of the rows that are laid out
-pub laid_next : (rows : List (SmallVec ℕ)) (i : ℕ) (row : SmallVec ℕ) (starts columns more_starts more_columns : List ℕ) → i < length rows → row ≡ get_or rows i row
-    → more_columns ≡ columns ++ row.items → more_starts ≡ starts ++ length more_columns ∷ [] → AreLaid starts columns (lists_of (take i rows)) → AreLaid more_starts more_columns (lists_of (take (i + 1) rows))
+pub laid_next : (rows : List (SmallVec ℕ)) (i : ℕ) (row : SmallVec ℕ)
+    (starts columns more_starts more_columns : List ℕ) → i < length rows → row ≡ get_or rows i row
+    → more_columns ≡ columns ++ row.items → more_starts ≡ starts ++ length more_columns ∷ []
+    → AreLaid starts columns (lists_of (take i rows))
+    → AreLaid more_starts more_columns (lists_of (take (i + 1) rows))
 laid_next rows i row starts columns more_starts more_columns lt is columns_are starts_are h =
-    let next : take (i + 1) rows ≡ take i rows ++ row ∷ [] = take_more rows i row lt ∙ ap (λ r. take i rows ++ r ∷ []) (sym is) in
-    let lists : lists_of (take (i + 1) rows) ≡ lists_of (take i rows) ++ row.items ∷ [] = ap lists_of next ∙ map-append (λ (r : SmallVec ℕ). r.items) (take i rows) (row ∷ []) in
-    rw (lists, starts_are, columns_are) (laid_more starts columns row.items (lists_of (take i rows)) h)
+    let next : take (i + 1) rows ≡ take i rows ++ row ∷ [] = take_more rows i row lt
+    ∙ ap (λ r. take i rows ++ r ∷ []) (sym is) in
+    let lists : lists_of (take (i + 1) rows) ≡ lists_of (take i rows) ++ row.items ∷ [] =
+    ap lists_of next ∙ map-append (λ (r : SmallVec ℕ). r.items) (take i rows) (row ∷ []) in
+    rw (lists, starts_are, columns_are) (laid_more starts columns row.items (lists_of (take i rows))
+    h)
 
 -- the rows have all columns
-pub sum_rows : (start : ℕ) (starts columns : List ℕ) → RisesTo (length columns) (start ∷ starts) → start + sum_by length (rows_of (start ∷ starts) columns) ≡ length columns
+pub sum_rows : (start : ℕ) (starts columns : List ℕ) → RisesTo (length columns) (start ∷ starts)
+    → start + sum_by length (rows_of (start ∷ starts) columns) ≡ length columns
 sum_rows start [] columns h = omega (arith, h)
 sum_rows start (next ∷ starts) columns h =
     let next_within : next ≤ length columns = start_within next starts (length columns) h.1 in
-    let long : length (take (next - start) (drop start columns)) ≡ next - start = length-take-le (next - start) (drop start columns) (omega (arith, length-drop start columns)) in
-    omega (arith, h.0, long, sum_rows next starts columns h.1, sum_by-cons length (take (next - start) (drop start columns)) (rows_of (next ∷ starts) columns))
+    let long : length (take (next - start) (drop start columns)) ≡ next - start =
+    length-take-le (next - start) (drop start columns)
+    (omega (arith, length-drop start columns)) in
+    omega (
+      arith,
+      h.0,
+      long,
+      sum_rows next starts columns h.1,
+      sum_by-cons length (take (next - start) (drop start columns))
+          (rows_of (next ∷ starts) columns),
+    )
 
 -- a row of the list is at its place
-pub row_at : (starts columns : List ℕ) → RisesTo (length columns) starts → (r : ℕ) → r < length (rows_of starts columns) → IsRowAt starts columns (get_or (rows_of starts columns) r []) r
+pub row_at : (starts columns : List ℕ) → RisesTo (length columns) starts → (r : ℕ)
+    → r < length (rows_of starts columns)
+    → IsRowAt starts columns (get_or (rows_of starts columns) r []) r
 row_at [] columns h r lt = absurd h
 row_at (a ∷ []) columns h r lt = absurd (omega arith)
-row_at (a ∷ b ∷ starts) columns h zero lt = record { room = omega arith; rise = h.0; within = start_within b starts (length columns) h.1; is = refl }
+row_at (a ∷ b ∷ starts) columns h zero lt =
+    record {
+      room = omega arith;
+      rise = h.0;
+      within = start_within b starts (length columns) h.1;
+      is = refl;
+    }
 row_at (a ∷ b ∷ starts) columns h (suc r) lt =
     let tail = row_at (b ∷ starts) columns h.1 r (omega arith) in
-    record { room = omega (arith, tail.room); rise = rw suc-add tail.rise; within = rw suc-add tail.within; is = rw suc-add tail.is }
+    record {
+      room = omega (arith, tail.room);
+      rise = rw suc-add tail.rise;
+      within = rw suc-add tail.within;
+      is = rw suc-add tail.is;
+    }
 
 -- strictly rising lists
 
 -- the i-th of them is at least i
-pub rising_above : (row : List ℕ) → IsStrictlyIncreasing row → (i : ℕ) → i < length row → i ≤ get_or row i 0
+pub rising_above : (row : List ℕ) → IsStrictlyIncreasing row → (i : ℕ) → i < length row
+    → i ≤ get_or row i 0
 rising_above row rising zero lt = omega arith
 rising_above row rising (suc i) lt =
     let step : get_or row i 0 < get_or row (suc i) 0 = rw add-one at (rising i (omega arith)) in
     omega (arith, rising_above row rising i (omega arith), step)
 
 -- so a list up to p has at most p + 1 of them
-pub rising_short : (row : List ℕ) (p : ℕ) → IsStrictlyIncreasing row → All (λ column. column ≤ p) row → length row ≤ p + 1
+pub rising_short : (row : List ℕ) (p : ℕ) → IsStrictlyIncreasing row
+    → All (λ column. column ≤ p) row → length row ≤ p + 1
 rising_short [] p rising within = omega arith
 rising_short (x ∷ row) p rising within =
-    let last : length row ≤ get_or (x ∷ row) (length row) 0 = rising_above (x ∷ row) rising (length row) (omega arith) in
+    let last : length row ≤ get_or (x ∷ row) (length row) 0 = rising_above (x ∷ row) rising
+    (length row) (omega arith) in
     omega (arith, last, within (length row) 0 (omega arith))
 
 -- each row of a code is at its place, and short
 
-pub code_row_at : (a : Inside) {m : Matrix} {starts columns : List ℕ} → IsLaidOut a.k a.n a.starts.items a.columns.items → matrix_of_starts a.k a.n a.starts.items a.columns.items ≡ m
-    → starts ≡ a.starts.items → columns ≡ a.columns.items → (r : ℕ) → r < m.n - m.k → IsRowAt starts columns (row_of m r) r
+pub code_row_at : (a : Inside) {m : Matrix} {starts columns : List ℕ}
+    → IsLaidOut a.k a.n a.starts.items a.columns.items
+    → matrix_of_starts a.k a.n a.starts.items a.columns.items ≡ m
+    → starts ≡ a.starts.items → columns ≡ a.columns.items → (r : ℕ) → r < m.n - m.k
+    → IsRowAt starts columns (row_of m r) r
 code_row_at a h is same_starts same_columns r lt =
     let count : a.k + length (rows_of a.starts.items a.columns.items) ≡ a.n = h.code.shape.count in
     let low : r < a.n - a.k = rw (← is) at lt in
-    let here = row_at a.starts.items a.columns.items (starts_rise a.starts.items a.columns.items h.starts_rise) r (omega arith) in
+    let here = row_at a.starts.items a.columns.items (starts_rise a.starts.items a.columns.items
+    h.starts_rise) r (omega arith) in
     rw (same_starts, same_columns, ← is) here
 
 pub code_row_short : (m : Matrix) → IsCode m → (r : ℕ) → r < m.n - m.k → length (row_of m r) ≤ 65536

@@ -1,5 +1,6 @@
 -- Whether a row has an even number of a set's columns, as a sum of bits.
-use Rattle.std.proofs.Common.{◌≡◌, ℕ, ◌+◌, ◌%◌, Bool, true, false, cond, List, [], ◌∷◌, count_by, refl, sym, ◌∙◌, arith}
+use Rattle.std.proofs.Common.{◌≡◌, ℕ, ◌+◌, ◌%◌, Bool, true, false, cond, List, [], ◌∷◌, count_by}
+use Rattle.std.proofs.Common.{refl, sym, ◌∙◌, arith}
 use Rattle.std.proofs.Math.Bool.{xor as bool_xor}
 use Rattle.std.proofs.lemmas.List.Sums.{sum_by-cons}
 use Rattle.sparse_rows.specs.Closure.{Set}
@@ -38,15 +39,18 @@ bit_laws = record { left = left; comm = comm; assoc = assoc; self = self }
 pub parity : (s : Set) (row : List ℕ) → count_by s row % 2 ≡ cond (total false bool_xor s row) 1 0
 unfolding bool_xor
 parity s [] = refl
-parity s (c ∷ row) = rw (sum_by-cons (λ d. cond (s d) 1 0) c row) (by_case (s c) (total false bool_xor s row) (parity s row))
+parity s (c ∷ row) = rw (sum_by-cons (λ d. cond (s d) 1 0) c row)
+    (by_case (s c) (total false bool_xor s row) (parity s row))
   where
-    by_case : (a b : Bool) → count_by s row % 2 ≡ cond b 1 0 → (cond a 1 0 + count_by s row) % 2 ≡ cond (bool_xor a b) 1 0
+    by_case : (a b : Bool) → count_by s row % 2 ≡ cond b 1 0 → (cond a 1 0 + count_by s row) % 2
+        ≡ cond (bool_xor a b) 1 0
     by_case true true e = omega arith
     by_case true false e = omega arith
     by_case false true e = omega arith
     by_case false false e = omega arith
 
-pub even_from : (s : Set) (row : List ℕ) → total false bool_xor s row ≡ false → count_by s row % 2 ≡ 0
+pub even_from : (s : Set) (row : List ℕ) → total false bool_xor s row ≡ false
+    → count_by s row % 2 ≡ 0
 even_from s row e = parity s row ∙ rw e refl
 
 pub even_to : (s : Set) (row : List ℕ) → count_by s row % 2 ≡ 0 → total false bool_xor s row ≡ false

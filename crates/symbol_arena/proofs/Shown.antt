@@ -25,7 +25,8 @@ use Rattle.symbol_arena.specs.Memory.{is_short, room_behind, memory_owns, memory
 use Rattle.symbol_arena.specs.contracts.memory.Memory as memory
 
 pub memory_laws : (p : Ptr) (written : List ℕ) → ShrLaws (memory_lends p written)
-memory_laws (block_ptr b o) written = beside_shr_laws _ _ (said_shr_laws (is_short written) tt) (elements_shr_laws u8 (uint_row_laws w8) written b o)
+memory_laws (block_ptr b o) written = beside_shr_laws _ _ (said_shr_laws (is_short written) tt)
+    (elements_shr_laws u8 (uint_row_laws w8) written b o)
 memory_laws null_ptr written = said_shr_laws ffalse tt
 
 -- the one field, which is the pointer
@@ -33,21 +34,29 @@ abbrev pub Field : RattleType
 Field = Struct (shape memory.the_type)
 
 module _ {M : Type 1} {𝓤 : Ura M} (𝓛 : Logic 𝓤) where
-  Lends-bytes : (l : Lft) (b o : ℕ) (written : List ℕ) → Lends 𝓛 (bytes full_share written b o) (elements_shared u8 written b o) l
+  Lends-bytes : (l : Lft) (b o : ℕ) (written : List ℕ)
+      → Lends 𝓛 (bytes full_share written b o) (elements_shared u8 written b o) l
   Lends-bytes l b o [] = Lends-nothing 𝓛 ftrue l
   Lends-bytes l b o (x ∷ written) =
-      Lends-both 𝓛 (part_at u8 full_share x b o) (bytes full_share written b (o + 1)) (shared_of u8 x b o) (elements_shared u8 written b (o + 1)) l
+      Lends-both 𝓛 (part_at u8 full_share x b o) (bytes full_share written b (o + 1))
+      (shared_of u8 x b o) (elements_shared u8 written b (o + 1)) l
       (λ κ ts. (uint_Copied 𝓛 w8).shares full_share l x κ ts b o) (Lends-bytes l b (o + 1) written)
 
-  pub Lends-memory : (l : Lft) (p : Ptr) (size : ℕ) (written : List ℕ) → Lends 𝓛 (memory_owns p size written) (memory_lends p written) l
+  pub Lends-memory : (l : Lft) (p : Ptr) (size : ℕ) (written : List ℕ)
+      → Lends 𝓛 (memory_owns p size written) (memory_lends p written) l
   Lends-memory l (block_ptr b o) size written =
       let all = bytes full_share written b o in
       let room = room_behind b o size written in
-      Lends-both 𝓛 (is_short written) (fsep all room) (said (is_short written)) (elements_shared u8 written b o) l (Lends-said 𝓛 (is_short written) tt l)
+      Lends-both 𝓛 (is_short written) (fsep all room) (said (is_short written))
+      (elements_shared u8 written b o) l (Lends-said 𝓛 (is_short written) tt l)
       (Lends-first 𝓛 all room (elements_shared u8 written b o) l (Lends-bytes l b o written))
   Lends-memory l null_ptr size written = Lends-false 𝓛 (said ffalse) l
 
   -- a `&` to the field shows the pointer
-  pub shows_pointer : (κ : Lft) (b o : ℕ) (p : Ptr) → ent 𝓤 (sem 𝓛 (hidden_shr Field κ (p, tt) b o)) (base.Logic.sep 𝓤 (sem 𝓛 (hidden_shr RawPtr κ p b (o + 0))) (sem 𝓛 (hidden_shr Field κ (p, tt) b o)))
+  pub shows_pointer : (κ : Lft) (b o : ℕ) (p : Ptr) → ent 𝓤 (sem 𝓛 (hidden_shr Field κ (p, tt) b o))
+      (base.Logic.sep 𝓤 (sem 𝓛 (hidden_shr RawPtr κ p b (o + 0)))
+      (sem 𝓛 (hidden_shr Field κ (p, tt) b o)))
   shows_pointer κ b o p =
-      qed 𝓛 (‵ (hidden_shr Field κ (p, tt) b o) ∷ []) ∵ shr_dup ! Field (Struct-row_laws (shape memory.the_type) (ptr_row_laws, tt)) (p, tt) b o κ $ unhide ! $ fsplit ! $ fsplit ! $ hide ! $ keep ! (0 ∷ 3 ∷ []) $ done !
+      qed 𝓛 (‵ (hidden_shr Field κ (p, tt) b o) ∷ []) ∵ shr_dup ! Field
+      (Struct-row_laws (shape memory.the_type) (ptr_row_laws, tt)) (p, tt) b o κ $ unhide ! $
+      fsplit ! $ fsplit ! $ hide ! $ keep ! (0 ∷ 3 ∷ []) $ done !

@@ -5,7 +5,8 @@ use Rattle.oti_fields.specs.declared.codec.Codec.{Codec}
 use Rattle.oti_fields.specs.declared.codec.Codec.TheVariants.{Staircase, Triangle, Parity2d}
 use Rattle.oti_fields.specs.declared.oti.Oti.{Oti}
 
-pub seed_within : (codec : Codec) (oti : Oti) → field_fault codec oti ≡ None → codec ≢ Parity2d → oti.seed ≤ 2147483646
+pub seed_within : (codec : Codec) (oti : Oti) → field_fault codec oti ≡ None → codec ≢ Parity2d
+    → oti.seed ≤ 2147483646
 seed_within Staircase oti whole other = search rules
 seed_within Triangle oti whole other = search rules
 seed_within Parity2d oti whole other = absurd (other refl)

@@ -9,7 +9,7 @@ use Rattle.tool_base.specs.Table.{loss_option, max_n_option, n1_option, n_option
 use Rattle.tool_base.specs.Table.{packets_option, perf_symbol_option, run_seed_option, runs_option}
 use Rattle.tool_base.specs.Table.{seed_option, symbol_option, width_option}
 use Rattle.tool_base.specs.Given.{is_random, is_yes, loss_given, number_given, number_or, shape_of}
-use Rattle.tool_base.specs.Given.{symbols_of}
+use Rattle.tool_base.specs.Given.{symbols_given}
 use Rattle.tool_base.specs.declared.command.Command.{Command}
 use Rattle.tool_base.specs.declared.command.Command.TheVariants as command
 use Rattle.tool_base.specs.declared.words.CommandWord.{CommandWord}
@@ -36,7 +36,7 @@ encode_of given =
     option_and_then
     (λ shape. option_map
     (λ max_n. command.Encode shape (number_or symbol_option given) block max_n)
-    (symbols_of max_n_option shape block given)) (shape_of max_n_option given)
+    (symbols_given max_n_option shape block given)) (shape_of max_n_option given)
 
 -- the options of `decode`
 abbrev pub decode_options : List CommandOption
@@ -92,7 +92,7 @@ perf_of given =
     (λ shape. option_map
     (λ n. command.Perf shape (number_or perf_symbol_option given) k n (loss_given given)
     (is_random given) (number_or runs_option given) (number_or run_seed_option given))
-    (symbols_of n_option shape k given)) (shape_of n_option given)
+    (symbols_given n_option shape k given)) (shape_of n_option given)
 
 -- the command that its first word names
 abbrev pub command_word_of : Text → Option CommandWord

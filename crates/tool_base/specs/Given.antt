@@ -80,7 +80,7 @@ symbols_wanted most shape k given =
     else unwrap_or (number_given most given) (min 65536 (3 * k / 2))
 
 -- this number, where it is one from k to 65536
-abbrev pub symbols_of : RangeOption → Shape → ℕ → Given → Option ℕ
-symbols_of most shape k given =
+abbrev pub symbols_given : RangeOption → Shape → ℕ → Given → Option ℕ
+symbols_given most shape k given =
     let n = symbols_wanted most shape k given in
     if nat_le k n && nat_le n 65536 then Some n else None

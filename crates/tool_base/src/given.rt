@@ -7,7 +7,7 @@ ghost use Rattle.tool_base.specs.Reading.{given_of, listed, numbered, ranged};
 ghost use Rattle.tool_base.specs.Ranges.{IsShapeInRange};
 ghost use Rattle.tool_base.specs.Given.{codec_given, gives_any, gives_excluded, is_grid, is_random};
 ghost use Rattle.tool_base.specs.Given.{is_yes, loss_given, number_given, number_or, shape_of};
-ghost use Rattle.tool_base.specs.Given.{symbols_of, symbols_wanted};
+ghost use Rattle.tool_base.specs.Given.{symbols_given, symbols_wanted};
 
 use crate::Shape;
 use crate::options::{NumberRow, OptionRow, RangeRow, read_codec};
@@ -145,7 +145,7 @@ pub fn symbols_given(given: &ArgMatches, most: &RangeRow, shape: &Shape, k: u32)
     requires wide { 1 ≤ shape.now.width }
     requires some { 1 ≤ k }
     requires few { k ≤ 65536 }
-    ensures value { result ≡ symbols_of (ranged most.now) shape.now k (given_of given.now) }
+    ensures value { result ≡ symbols_given (ranged most.now) shape.now k (given_of given.now) }
     ensures least { IfSome result (λ n. k ≤ n) }
     ensures most { IfSome result (λ n. n ≤ 65536) }
     ensures grid { IfSome result (λ n. shape.now.codec ≡ Parity2d → n ≡ size_2d k shape.now.width) }

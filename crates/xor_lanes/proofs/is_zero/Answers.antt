@@ -4,13 +4,26 @@ use Rattle.xor_lanes.proofs.Lanes.{zero_bytes, bytes_zero}
 use Rattle.xor_lanes.proofs.is_zero.Goals as goal
 
 pub returns-then-not-is_lane_zero : goal.returns-then-not-is_lane_zero
-returns-then-not-is_lane_zero c = (λ t. absurd (cc t), λ e. absurd (cc (c.if-not-is_lane_zero.true, c.is_lane_zero.ensures.1 (λ k le lt. bytes_zero c.args.s.now e k))))
+returns-then-not-is_lane_zero c = (
+  λ t. absurd (cc t),
+  λ e. absurd
+      (cc (
+        c.if-not-is_lane_zero.true,
+        c.is_lane_zero.ensures.1 (λ k le lt. bytes_zero c.args.s.now e k),
+      )),
+)
 
 pub loop-at-preserved : goal.loop-at-preserved
 loop-at-preserved c = record {
   room = omega (arith, c.loop-at-test.true);
-  zero = λ k lt. ⊎_elim (λ low. c.loop-at.invariant.zero k low) (λ high. c.is_lane_zero.ensures.0 c.if-not-is_lane_zero.false k high lt) (cases_lt k c.loop-at.at);
+  zero = λ k lt. ⊎_elim (λ low. c.loop-at.invariant.zero k low)
+      (λ high. c.is_lane_zero.ensures.0 c.if-not-is_lane_zero.false k high lt)
+      (cases_lt k c.loop-at.at);
 }
 
 pub returns : goal.returns
-returns c = (λ t. zero_bytes c.args.s.now (λ k lt. c.loop-at-2.invariant.zero k (omega (arith, c.loop-at-2-test.false))), λ e. refl)
+returns c = (
+  λ t. zero_bytes c.args.s.now (λ k lt. c.loop-at-2.invariant.zero k
+      (omega (arith, c.loop-at-2-test.false))),
+  λ e. refl,
+)

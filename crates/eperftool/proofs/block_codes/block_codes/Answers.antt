@@ -1,4 +1,5 @@
-use Rattle.std.proofs.Common.{rules, ◌<◌, ◌∷◌, ◌++◌, [], List, Contains, length, sym, ap, subst, arith, length-append}
+use Rattle.std.proofs.Common.{rules, ◌<◌, ◌∷◌, ◌++◌, [], List, Contains, length, sym, ap, subst}
+use Rattle.std.proofs.Common.{arith, length-append}
 use Rattle.sparse_rows.specs.Matrix.{Matrix}
 use Rattle.packet_file.specs.Header.{source_counts}
 use Rattle.eperftool.specs.BuiltCodes.{HasSize}
@@ -11,7 +12,8 @@ copy_code-requires-clause-code c =
     let h = c.args.header.now in
     let block = c.loop-block.block in
     let inside : block < length (source_counts h) = search rules in
-    subst (λ (matrices : List Matrix). HasSize matrices (count_at h block)) (sym c.deref.ensures.value) (c.in_ok-sizes.ensures.codes.each block inside)
+    subst (λ (matrices : List Matrix). HasSize matrices (count_at h block))
+    (sym c.deref.ensures.value) (c.in_ok-sizes.ensures.codes.each block inside)
 
 pub loop-block-preserved : goal.loop-block-preserved
 loop-block-preserved c =
@@ -22,12 +24,25 @@ loop-block-preserved c =
     let made = c.in_ok-copy_code.ensures in
     let counted = c.loop-block.invariant.counted in
     let block = c.loop-block.block in
-    let one : IsCopied h matrices block next = record { matrix = subst (λ (l : List Matrix). Contains l next) c.deref.ensures.value made.matrix; size = made.size } in
-    let more : AreCopied h matrices (codes ++ next ∷ []) = copied_more h matrices codes next c.loop-block.invariant.copied (subst (λ b. IsCopied h matrices b next) (sym counted) one) in
+    let one : IsCopied h matrices block next =
     record {
-      counted = omega (arith, length-append codes (next ∷ []), counted, ap length c.in_ok-push.ensures.items);
+      matrix = subst (λ (l : List Matrix). Contains l next) c.deref.ensures.value
+          made.matrix;
+      size = made.size;
+    } in
+    let more : AreCopied h matrices (codes ++ next ∷ []) = copied_more h matrices codes next
+    c.loop-block.invariant.copied (subst (λ b. IsCopied h matrices b next) (sym counted) one) in
+    record {
+      counted = omega (
+        arith,
+        length-append codes (next ∷ []),
+        counted,
+        ap length c.in_ok-push.ensures.items,
+      );
       copied = subst (AreCopied h matrices) (sym {A = List Matrix} c.in_ok-push.ensures.items) more;
     }
 
 pub returns-clause-codes : goal.returns-clause-codes
-returns-clause-codes c = copied_are c.args.header.now c.args.draws c.in_ok-sizes.sizes.items c.loop-block.codes.items c.in_ok-sizes.ensures.codes c.loop-block.invariant.copied (search rules)
+returns-clause-codes c = copied_are c.args.header.now c.args.draws c.in_ok-sizes.sizes.items
+    c.loop-block.codes.items c.in_ok-sizes.ensures.codes c.loop-block.invariant.copied
+    (search rules)

@@ -1,4 +1,5 @@
-use Rattle.std.proofs.Common.{◌≡◌, ◌<◌, ◌++◌, List, [], ℕ, length, get_or, take, subst, sym, ap, ◌∙◌, append_assoc, arith, rules}
+use Rattle.std.proofs.Common.{◌≡◌, ◌<◌, ◌++◌, List, [], ℕ, length, get_or, take, subst, sym, ap}
+use Rattle.std.proofs.Common.{◌∙◌, append_assoc, arith, rules}
 use Rattle.std.specs.List.{flat_map}
 use Rattle.std.proofs.lemmas.List.{take_all}
 use Rattle.std.proofs.KnownBytes.{Appends-nil}
@@ -18,7 +19,8 @@ put_source-requires-clause-known g c =
     let i = c.loop-block.block in
     let o = c.outcome.result.now in
     let known = c.requires.known i o (omega arith) in
-    subst (λ (k : ℕ). HasSource k o) (sym c.source_count.ensures.value) (subst (HasSource (count_at h i)) (sym (c.outcome.ensures o)) known)
+    subst (λ (k : ℕ). HasSource k o) (sym c.source_count.ensures.value)
+    (subst (HasSource (count_at h i)) (sym (c.outcome.ensures o)) known)
 
 pub loop-block-init : goal.loop-block-init
 loop-block-init g c =
@@ -26,7 +28,9 @@ loop-block-init g c =
     let bytes = c.args.staging.now.bytes in
     record {
       room = search rules;
-      passed = subst (PassesOn held held bytes bytes) (sym (take_all c.args.header.now.oti.length [] (omega arith))) (passes_none held bytes (Appends-nil held));
+      passed = subst (PassesOn held held bytes bytes)
+          (sym (take_all c.args.header.now.oti.length [] (omega arith)))
+          (passes_none held bytes (Appends-nil held));
       rest = omega (arith, ap (λ oti. oti.length) c.oti.ensures.value);
       later = search rules;
     }
@@ -43,10 +47,15 @@ loop-block-preserved g c =
     let is : o ≡ get_or xs i o = c.outcome.ensures o in
     record {
       room = search rules;
-      passed = subst (PassesOn (held c.args.sink.now) (held c.put_source.new.sink) c.args.staging.now.bytes c.put_source.new.staging.bytes) (sym (blocks_more source_bytes xs i o lt is size rest c.loop-block.invariant.rest))
-          (passes_after (held c.args.sink.now) (held c.loop-block.sink) (held c.put_source.new.sink) c.args.staging.now.bytes c.loop-block.staging.bytes c.put_source.new.staging.bytes
-          (take size (flat_map source_bytes (take i xs))) (take rest (source_bytes o)) c.loop-block.invariant.passed c.in_ok-rest.ensures.passed);
-      rest = c.in_ok-rest.ensures.left ∙ blocks_left source_bytes xs i o lt is size rest c.loop-block.invariant.rest;
+      passed = subst (PassesOn (held c.args.sink.now) (held c.put_source.new.sink)
+          c.args.staging.now.bytes c.put_source.new.staging.bytes)
+          (sym (blocks_more source_bytes xs i o lt is size rest c.loop-block.invariant.rest))
+          (passes_after (held c.args.sink.now) (held c.loop-block.sink) (held c.put_source.new.sink)
+          c.args.staging.now.bytes c.loop-block.staging.bytes c.put_source.new.staging.bytes
+          (take size (flat_map source_bytes (take i xs))) (take rest (source_bytes o))
+          c.loop-block.invariant.passed c.in_ok-rest.ensures.passed);
+      rest = c.in_ok-rest.ensures.left ∙ blocks_left source_bytes xs i o lt is size rest
+          c.loop-block.invariant.rest;
       later = search rules;
     }
 
@@ -63,9 +72,15 @@ returns-in_err-rest-clause-cut g c =
     let between = c.loop-block.staging.bytes in
     let front : List ℕ = take size (flat_map source_bytes (take i xs)) in
     let here : List ℕ = take rest (source_bytes o) in
-    let split = blocks_front source_bytes xs i o lt (c.outcome.ensures o) size rest c.loop-block.invariant.rest in
-    on_err c.from_residual.result (AppendsFront (held c.args.sink.now) (held c.put_source.new.sink) (before ++ object_of xs size))
-    (subst (λ (bytes : List ℕ). AppendsFront (held c.args.sink.now) (held c.put_source.new.sink) (before ++ bytes)) split.1
-    (cut_after (held c.args.sink.now) (held c.loop-block.sink) (held c.put_source.new.sink) before between front (here ++ split.0) c.loop-block.invariant.passed
-    (subst (AppendsFront (held c.loop-block.sink) (held c.put_source.new.sink)) (append_assoc between here split.0)
-    (cut_longer (held c.loop-block.sink) (held c.put_source.new.sink) (between ++ here) split.0 c.in_err-rest.ensures.cut))))
+    let split = blocks_front source_bytes xs i o lt (c.outcome.ensures o) size rest
+    c.loop-block.invariant.rest in
+    on_err c.from_residual.result (AppendsFront (held c.args.sink.now) (held c.put_source.new.sink)
+    (before ++ object_of xs size))
+    (subst (λ (bytes : List ℕ). AppendsFront (held c.args.sink.now) (held c.put_source.new.sink)
+    (before ++ bytes)) split.1
+    (cut_after (held c.args.sink.now) (held c.loop-block.sink) (held c.put_source.new.sink) before
+    between front (here ++ split.0) c.loop-block.invariant.passed
+    (subst (AppendsFront (held c.loop-block.sink) (held c.put_source.new.sink))
+    (append_assoc between here split.0)
+    (cut_longer (held c.loop-block.sink) (held c.put_source.new.sink) (between ++ here) split.0
+    c.in_err-rest.ensures.cut))))

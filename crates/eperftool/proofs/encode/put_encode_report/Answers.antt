@@ -11,14 +11,18 @@ returns-in_err-put_numbered-clause-cut g c =
     let held = g.R.Sink.held in
     let now = held c.put_numbered.new.report in
     on_err _ _ (subst (AppendsFront (held c.args.report.now) now)
-    (numbered_both (codes "blocks ") (decimal c.args.blocks) (codes "\n") (codes "packets ") (decimal c.args.packets) (codes "\n"))
-    (cut_longer (held c.args.report.now) now (numbered (codes "blocks ") c.args.blocks) (numbered (codes "packets ") c.args.packets) c.in_err-put_numbered.ensures.cut))
+    (numbered_both (codes "blocks ") (decimal c.args.blocks) (codes "\n") (codes "packets ")
+    (decimal c.args.packets) (codes "\n"))
+    (cut_longer (held c.args.report.now) now (numbered (codes "blocks ") c.args.blocks)
+    (numbered (codes "packets ") c.args.packets) c.in_err-put_numbered.ensures.cut))
 
 pub returns-in_err-put_numbered-2-clause-cut : goal.returns-in_err-put_numbered-2-clause-cut
 returns-in_err-put_numbered-2-clause-cut g c =
     let held = g.R.Sink.held in
     let now = held c.put_numbered-2.new.report in
     on_err _ _ (subst (AppendsFront (held c.args.report.now) now)
-    (numbered_both (codes "blocks ") (decimal c.args.blocks) (codes "\n") (codes "packets ") (decimal c.args.packets) (codes "\n"))
-    (cut_behind (held c.args.report.now) (held c.put_numbered.new.report) now (numbered (codes "blocks ") c.args.blocks) (numbered (codes "packets ") c.args.packets)
+    (numbered_both (codes "blocks ") (decimal c.args.blocks) (codes "\n") (codes "packets ")
+    (decimal c.args.packets) (codes "\n"))
+    (cut_behind (held c.args.report.now) (held c.put_numbered.new.report) now
+    (numbered (codes "blocks ") c.args.blocks) (numbered (codes "packets ") c.args.packets)
     c.in_ok-put_numbered.ensures.written c.in_err-put_numbered-2.ensures.cut))

@@ -2,4 +2,5 @@ use Rattle.eperftool.proofs.PerfRuns.{comes_through}
 use Rattle.eperftool.proofs.laws.codes_are_tried.Goals as goal
 
 pub returns : goal.returns
-returns c o built before after ended small builds clean run = comes_through o built before after ended small builds clean run
+returns c o built before after ended small builds clean run = comes_through o built before after
+    ended small builds clean run

@@ -7,13 +7,18 @@ pub loop-block-preserved : goal.loop-block-preserved
 loop-block-preserved g c =
     let xs = c.args.finished.now.outcomes in
     let o = c.outcome.result.now in
-    none_more is_contradicted xs c.loop-block.block o (omega arith) c.loop-block.invariant (ap is_contradicted (sym (c.outcome.ensures o)) ∙ sym c.is_contradicted.ensures ∙ c.if-is_contradicted.false)
+    none_more is_contradicted xs c.loop-block.block o (omega arith) c.loop-block.invariant
+    (ap is_contradicted (sym (c.outcome.ensures o)) ∙ sym c.is_contradicted.ensures
+    ∙ c.if-is_contradicted.false)
 
 pub returns-then-is_contradicted : goal.returns-then-is_contradicted
 returns-then-is_contradicted g c =
     let xs = c.args.finished.now.outcomes in
     let o = c.outcome.result.now in
-    some_here is_contradicted xs c.loop-block.block o (omega arith) (ap is_contradicted (sym (c.outcome.ensures o)) ∙ sym c.is_contradicted.ensures ∙ c.if-is_contradicted.true)
+    some_here is_contradicted xs c.loop-block.block o (omega arith)
+    (ap is_contradicted (sym (c.outcome.ensures o)) ∙ sym c.is_contradicted.ensures
+    ∙ c.if-is_contradicted.true)
 
 pub returns : goal.returns
-returns g c = none_at_all is_contradicted c.args.finished.now.outcomes c.loop-block.block (search rules) c.loop-block.invariant
+returns g c = none_at_all is_contradicted c.args.finished.now.outcomes c.loop-block.block
+    (search rules) c.loop-block.invariant

@@ -5,6 +5,7 @@ use Rattle.eperftool.proofs.outcome.put_block_lines.Given as goal
 
 abbrev pub invariant-loop-block : goal.invariant-loop-block
 invariant-loop-block g l = record {
-  told : Appends (g.R.Sink.held l.initial.report) (g.R.Sink.held l.report) (block_lines (take l.block l.finished.outcomes));
+  told : Appends (g.R.Sink.held l.initial.report) (g.R.Sink.held l.report)
+      (block_lines (take l.block l.finished.outcomes));
   later : g.R.Sink.faults l.initial.report ≤ g.R.Sink.faults l.report;
 }

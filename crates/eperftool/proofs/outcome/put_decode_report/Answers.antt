@@ -12,6 +12,8 @@ returns-in_err-put_numbered-clause-cut g c =
     let held = g.R.Sink.held in
     let now = held c.put_numbered.new.report in
     let lines = block_lines c.args.finished.now.outcomes in
-    on_err _ _ (subst (AppendsFront (held c.args.report.now) now) (numbered_behind lines (codes "packets ") (decimal c.args.packets) (codes "\n"))
-    (cut_behind (held c.args.report.now) (held c.put_block_lines.new.report) now lines (numbered (codes "packets ") c.args.packets)
+    on_err _ _ (subst (AppendsFront (held c.args.report.now) now)
+    (numbered_behind lines (codes "packets ") (decimal c.args.packets) (codes "\n"))
+    (cut_behind (held c.args.report.now) (held c.put_block_lines.new.report) now lines
+    (numbered (codes "packets ") c.args.packets)
     c.in_ok-put_block_lines.ensures.written c.in_err-put_numbered.ensures.cut))

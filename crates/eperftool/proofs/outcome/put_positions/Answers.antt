@@ -22,8 +22,12 @@ loop-position-preserved g c =
     let i = c.loop-position.position-index in
     let p = get_or xs i 0 in
     record {
-      told = subst (Appends (held c.args.report.now) (held c.put_position.new.report)) (sym (one_more place xs i p (omega arith) (get_or_default xs i 0 (get_or xs i 0) (omega arith))))
-          (Appends-trans (held c.args.report.now) (held c.loop-position.report) (held c.put_position.new.report) (spaced (take i xs)) (place p) c.loop-position.invariant.told c.in_ok-put_position.ensures.written);
+      told = subst (Appends (held c.args.report.now) (held c.put_position.new.report))
+          (sym (one_more place xs i p (omega arith) (get_or_default xs i 0 (get_or xs i 0)
+          (omega arith))))
+          (Appends-trans (held c.args.report.now) (held c.loop-position.report)
+          (held c.put_position.new.report) (spaced (take i xs)) (place p)
+          c.loop-position.invariant.told c.in_ok-put_position.ensures.written);
       later = omega (arith, c.loop-position.invariant.later, c.put_position.ensures.cause.later);
     }
 
@@ -34,6 +38,11 @@ returns-in_err-put_position-clause-cut g c =
     let i = c.loop-position.position-index in
     let p = get_or xs i 0 in
     let rest : List ℕ = flat_map place (drop (i + 1) xs) in
-    on_err _ _ (subst (AppendsFront (held c.args.report.now) (held c.put_position.new.report)) (sym (all_blocks place xs i p (omega arith) (get_or_default xs i 0 (get_or xs i 0) (omega arith))))
-    (cut_behind (held c.args.report.now) (held c.loop-position.report) (held c.put_position.new.report) (spaced (take i xs)) (place p ++ rest) c.loop-position.invariant.told
-    (cut_longer (held c.loop-position.report) (held c.put_position.new.report) (place p) rest c.in_err-put_position.ensures.cut)))
+    on_err _ _ (subst (AppendsFront (held c.args.report.now) (held c.put_position.new.report))
+    (sym (all_blocks place xs i p (omega arith) (get_or_default xs i 0 (get_or xs i 0)
+    (omega arith))))
+    (cut_behind (held c.args.report.now) (held c.loop-position.report)
+    (held c.put_position.new.report) (spaced (take i xs)) (place p ++ rest)
+    c.loop-position.invariant.told
+    (cut_longer (held c.loop-position.report) (held c.put_position.new.report) (place p) rest
+    c.in_err-put_position.ensures.cut)))

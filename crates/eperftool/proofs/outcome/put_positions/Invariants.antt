@@ -5,6 +5,7 @@ use Rattle.eperftool.proofs.outcome.put_positions.Given as goal
 
 abbrev pub invariant-loop-position : goal.invariant-loop-position
 invariant-loop-position g l = record {
-  told : Appends (g.R.Sink.held l.initial.report) (g.R.Sink.held l.report) (spaced (take l.position-index l.positions));
+  told : Appends (g.R.Sink.held l.initial.report) (g.R.Sink.held l.report)
+      (spaced (take l.position-index l.positions));
   later : g.R.Sink.faults l.initial.report ≤ g.R.Sink.faults l.report;
 }

@@ -9,16 +9,22 @@ pub returns-in_err-put_text-clause-cut : goal.returns-in_err-put_text-clause-cut
 returns-in_err-put_text-clause-cut g c =
     let held = g.R.Sink.held in
     on_err _ _ (cut_longer (held c.args.report.now) (held c.put_text.new.sink)
-    (codes " undetermined") (spaced c.args.positions.now ++ codes "\n") c.in_err-put_text.ensures.cut)
+    (codes " undetermined") (spaced c.args.positions.now ++ codes "\n")
+    c.in_err-put_text.ensures.cut)
 
 pub returns-in_err-put_positions-clause-cut : goal.returns-in_err-put_positions-clause-cut
 returns-in_err-put_positions-clause-cut g c =
     let held = g.R.Sink.held in
-    on_err _ _ (cut_between (held c.args.report.now) (held c.put_text.new.sink) (held c.put_positions.new.report)
-    (codes " undetermined") (spaced c.args.positions.now) (codes "\n") c.in_ok-put_text.ensures.bytes c.in_err-put_positions.ensures.cut)
+    on_err _ _ (cut_between (held c.args.report.now) (held c.put_text.new.sink)
+    (held c.put_positions.new.report)
+    (codes " undetermined") (spaced c.args.positions.now) (codes "\n")
+    c.in_ok-put_text.ensures.bytes c.in_err-put_positions.ensures.cut)
 
 pub returns-in_err-put_text-2-clause-cut : goal.returns-in_err-put_text-2-clause-cut
 returns-in_err-put_text-2-clause-cut g c =
     let held = g.R.Sink.held in
-    on_err _ _ (cut_third (held c.args.report.now) (held c.put_text.new.sink) (held c.put_positions.new.report) (held c.put_text-2.new.sink)
-    (codes " undetermined") (spaced c.args.positions.now) (codes "\n") c.in_ok-put_text.ensures.bytes c.in_ok-put_positions.ensures.written c.in_err-put_text-2.ensures.cut)
+    on_err _ _ (cut_third (held c.args.report.now) (held c.put_text.new.sink)
+    (held c.put_positions.new.report) (held c.put_text-2.new.sink)
+    (codes " undetermined") (spaced c.args.positions.now) (codes "\n")
+    c.in_ok-put_text.ensures.bytes c.in_ok-put_positions.ensures.written
+    c.in_err-put_text-2.ensures.cut)

@@ -8,9 +8,11 @@ use Rattle.eperftool.proofs.receive.take_packets.Given as goal
 abbrev pub invariant-loop-index : goal.invariant-loop-index
 invariant-loop-index g l = record {
   long : length l.piece ≡ 4 + l.header.oti.symbol;
-  stands : (packets : List Packet) × StandsAt l.header (code_of l.initial.receiver.cores) l.early l.most (g.S.Source.left l.initial.input) (g.S.Source.left l.input)
+  stands : (packets : List Packet) × StandsAt l.header (code_of l.initial.receiver.cores) l.early
+      l.most (g.S.Source.left l.initial.input) (g.S.Source.left l.input)
       (g.W.Watch.told l.initial.receiver.watch) (g.W.Watch.told l.receiver.watch) packets []
-      × AreCores l.header (code_of l.initial.receiver.cores) packets l.receiver.cores × (length packets ≡ l.index);
+      × AreCores l.header (code_of l.initial.receiver.cores) packets l.receiver.cores
+      × (length packets ≡ l.index);
   few : l.index ≤ l.most;
   later : g.S.Source.faults l.initial.input ≤ g.S.Source.faults l.input;
   told_later : g.W.Watch.faults l.initial.receiver.watch ≤ g.W.Watch.faults l.receiver.watch;

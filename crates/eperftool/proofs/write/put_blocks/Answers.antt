@@ -1,4 +1,5 @@
-use Rattle.std.proofs.Common.{◌++◌, ◌+◌, ◌<◌, List, [], ℕ, length, take, drop, subst, ap, arith, rules}
+use Rattle.std.proofs.Common.{◌++◌, ◌+◌, ◌<◌, List, [], ℕ, length, take, drop, subst, ap, arith}
+use Rattle.std.proofs.Common.{rules}
 use Rattle.fec_base.specs.Bytes.{AppendsFront}
 use Rattle.eperftool.specs.File.{block_packets, packets}
 use Rattle.eperftool.specs.Staged.{PassesOn}
@@ -12,9 +13,21 @@ loop-block-preserved g c =
     record {
       room = search rules;
       passed = λ words are.
-          let inside : b < length words = omega (arith, c.loop-block-test.true, c.count-block-end.ensures.value, ap length c.plan.ensures, are.counted) in
-          let second = subst (λ (word : List (List ℕ)). PassesOn (held c.loop-block.sink) (held c.put_block.new.sink) c.loop-block.staging.bytes c.put_block.new.staging.bytes (block_packets b word)) (c.in_ok-word.ensures.word words are) c.in_ok-put_block.ensures.passed in
-          pieces_pass block_packets (held c.args.sink.now) (held c.loop-block.sink) (held c.put_block.new.sink) c.args.staging.now.bytes c.loop-block.staging.bytes words b [] inside (c.loop-block.invariant.passed words are)
+          let inside : b < length words =
+          omega (
+            arith,
+            c.loop-block-test.true,
+            c.count-block-end.ensures.value,
+            ap length c.plan.ensures,
+            are.counted,
+          ) in
+          let second = subst (λ (word : List (List ℕ)). PassesOn (held c.loop-block.sink)
+          (held c.put_block.new.sink) c.loop-block.staging.bytes c.put_block.new.staging.bytes
+          (block_packets b word)) (c.in_ok-word.ensures.word words are)
+          c.in_ok-put_block.ensures.passed in
+          pieces_pass block_packets (held c.args.sink.now) (held c.loop-block.sink)
+          (held c.put_block.new.sink) c.args.staging.now.bytes c.loop-block.staging.bytes words
+          b [] inside (c.loop-block.invariant.passed words are)
           c.put_block.new.staging.bytes second;
       later = search rules;
     }
@@ -33,6 +46,17 @@ pub returns-in_err-put_block-clause-cut : goal.returns-in_err-put_block-clause-c
 returns-in_err-put_block-clause-cut g c words are _ =
     let held = g.K.Sink.held in
     let b = c.loop-block.block in
-    let inside : b < length words = omega (arith, c.loop-block-test.true, c.count-block-end.ensures.value, ap length c.plan.ensures, are.counted) in
-    let second = subst (λ (word : List (List ℕ)). AppendsFront (held c.loop-block.sink) (held c.put_block.new.sink) (c.loop-block.staging.bytes ++ block_packets b word)) (c.in_ok-word.ensures.word words are) c.in_err-put_block.ensures.cut in
-    pieces_cut block_packets (held c.args.sink.now) (held c.loop-block.sink) (held c.put_block.new.sink) c.args.staging.now.bytes c.loop-block.staging.bytes words b [] inside (c.loop-block.invariant.passed words are) second
+    let inside : b < length words =
+    omega (
+      arith,
+      c.loop-block-test.true,
+      c.count-block-end.ensures.value,
+      ap length c.plan.ensures,
+      are.counted,
+    ) in
+    let second = subst (λ (word : List (List ℕ)). AppendsFront (held c.loop-block.sink)
+    (held c.put_block.new.sink) (c.loop-block.staging.bytes ++ block_packets b word))
+    (c.in_ok-word.ensures.word words are) c.in_err-put_block.ensures.cut in
+    pieces_cut block_packets (held c.args.sink.now) (held c.loop-block.sink)
+    (held c.put_block.new.sink) c.args.staging.now.bytes c.loop-block.staging.bytes words b []
+    inside (c.loop-block.invariant.passed words are) second

@@ -1,10 +1,11 @@
-use Rattle.std.proofs.Common.{◌≡◌, ℕ, All, cond, length, get_or, sym, ap, ◌∙◌, subst, bit_xor, arith}
+use Rattle.std.proofs.Common.{◌≡◌, ℕ, All, cond, length, get_or, sym, ap, ◌∙◌, subst, bit_xor}
+use Rattle.std.proofs.Common.{arith}
 use Rattle.std.proofs.lemmas.List.{get_or_default}
 use Rattle.fec_base.specs.Symbol.{IsSymbol}
 use Rattle.sparse_rows.proofs.Algebra.{right}
 use Rattle.sparse_rows.proofs.Planes.{byte_laws}
 use Rattle.gauss.specs.Packed.{bits_of, sum_byte}
-use Rattle.gauss.specs.Elimination.{row_of}
+use Rattle.gauss.specs.Elimination.{pivot_row}
 use Rattle.gauss.proofs.Growing.{product_step}
 use Rattle.gauss.proofs.clash.add_pivot_sums.Goals as goal
 use Rattle.gauss.proofs.clash.add_pivot_sums.Goals.{then-has, else-has}
@@ -13,24 +14,34 @@ pub loop-p-init : goal.loop-p-init
 loop-p-init c t lt = sym (right 0 bit_xor byte_laws (get_or c.args.sum.now t 0))
 
 pub add_row_sum-requires-clause-symbols : goal.add_row_sum-requires-clause-symbols
-add_row_sum-requires-clause-symbols c = subst (λ n. All (IsSymbol n) c.args.sums.now) (sym c.loop-p.auto.sum) c.requires.symbols
+add_row_sum-requires-clause-symbols c = subst (λ n. All (IsSymbol n) c.args.sums.now)
+    (sym c.loop-p.auto.sum) c.requires.symbols
 
 pub loop-p-preserved : goal.loop-p-preserved
 loop-p-preserved c t lt =
     let n : ℕ = length c.args.sum.now in
     let p : ℕ = c.loop-p.p in
     let mask = bits_of c.args.width c.args.words.now c.args.r in
-    let x : ℕ → ℕ = λ q. sum_byte c.args.sums.now t (row_of c.args.rows c.args.pivots.now q) in
-    let row_is : get_or c.args.pivots.now p 0 ≡ row_of c.args.rows c.args.pivots.now p = get_or_default c.args.pivots.now p 0 c.args.rows (omega (arith, c.loop-p-test.true, c.loop-p.auto.p-end)) in
-    let step = product_step 0 bit_xor byte_laws p mask x (get_or c.args.sum.now t 0) (get_or c.loop-p.sum t 0) (get_or c.if-has.sum t 0) (c.loop-p.invariant t lt) in
+    let x : ℕ → ℕ = λ q. sum_byte c.args.sums.now t (pivot_row c.args.rows c.args.pivots.now q) in
+    let row_is : get_or c.args.pivots.now p 0 ≡ pivot_row c.args.rows c.args.pivots.now p =
+    get_or_default c.args.pivots.now p 0 c.args.rows
+    (omega (arith, c.loop-p-test.true, c.loop-p.auto.p-end)) in
+    let step = product_step 0 bit_xor byte_laws p mask x (get_or c.args.sum.now t 0)
+    (get_or c.loop-p.sum t 0) (get_or c.if-has.sum t 0) (c.loop-p.invariant t lt) in
     elim c.if-has.branch [
-      | then-has w ↦ step (ap (λ xs. get_or xs t 0) w.sum-is ∙ w.add_row_sum.ensures t (omega (arith, lt, c.loop-p.auto.sum))
+      | then-has w ↦ step (ap (λ xs. get_or xs t 0) w.sum-is
+          ∙ w.add_row_sum.ensures t (omega (arith, lt, c.loop-p.auto.sum))
           ∙ ap (λ k. bit_xor (get_or c.loop-p.sum t 0) (sum_byte c.args.sums.now t k)) row_is
-          ∙ ap (λ b. bit_xor (get_or c.loop-p.sum t 0) (cond b (x p) 0)) (sym (sym c.has.ensures ∙ w.if-has.true)))
-      | else-has w ↦ step (ap (λ xs. get_or xs t 0) w.sum-is ∙ sym (right 0 bit_xor byte_laws (get_or c.loop-p.sum t 0)) ∙ ap (λ b. bit_xor (get_or c.loop-p.sum t 0) (cond b (x p) 0)) (sym (sym c.has.ensures ∙ w.if-has.false)))
+          ∙ ap (λ b. bit_xor (get_or c.loop-p.sum t 0) (cond b (x p) 0))
+          (sym (sym c.has.ensures ∙ w.if-has.true)))
+      | else-has w ↦ step (ap (λ xs. get_or xs t 0) w.sum-is
+          ∙ sym (right 0 bit_xor byte_laws (get_or c.loop-p.sum t 0))
+          ∙ ap (λ b. bit_xor (get_or c.loop-p.sum t 0) (cond b (x p) 0))
+          (sym (sym c.has.ensures ∙ w.if-has.false)))
     ]
 
 pub returns : goal.returns
 returns c t lt =
-    let is : c.loop-p.p ≡ length c.args.pivots.now = omega (arith, c.loop-p-test.false, c.loop-p.auto.p-end) in
+    let is : c.loop-p.p ≡ length c.args.pivots.now =
+    omega (arith, c.loop-p-test.false, c.loop-p.auto.p-end) in
     rw is at (c.loop-p.invariant t lt)

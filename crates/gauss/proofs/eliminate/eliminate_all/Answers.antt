@@ -1,23 +1,31 @@
-use Rattle.std.proofs.Common.{◌≡◌, ◌+◌, ◌*◌, ◌<◌, ◌⊎◌, inl, inr, ℕ, length, sym, subst, subst₂, arith}
+use Rattle.std.proofs.Common.{◌≡◌, ◌+◌, ◌*◌, ◌<◌, ◌⊎◌, inl, inr, ℕ, length, sym, subst, subst₂}
+use Rattle.std.proofs.Common.{arith}
 use Rattle.gauss.specs.Packed.{bits_of}
 use Rattle.gauss.specs.Elimination.{IsStageIn}
 use Rattle.gauss.proofs.eliminate.eliminate_all.Goals as goal
 
 -- a group starts at a multiple of eight, or there is none left
-next_start : (u start end : ℕ) → start < u → (start ≡ u) ⊎ ((g : ℕ) × (start ≡ 8 * g)) → (end ≡ u) ⊎ (end ≡ start + 8) → (end ≡ u) ⊎ ((g : ℕ) × (end ≡ 8 * g))
+next_start : (u start end : ℕ) → start < u → (start ≡ u) ⊎ ((g : ℕ) × (start ≡ 8 * g))
+    → (end ≡ u) ⊎ (end ≡ start + 8) → (end ≡ u) ⊎ ((g : ℕ) × (end ≡ 8 * g))
 next_start u start end lt (inl e) ends = absurd (omega (arith, e, lt))
 next_start u start end lt (inr (g, e)) (inl f) = inl f
 next_start u start end lt (inr (g, e)) (inr f) = inr (g + 1, omega (arith, e, f))
 
-starts_group : (u start : ℕ) → start < u → (start ≡ u) ⊎ ((g : ℕ) × (start ≡ 8 * g)) → (g : ℕ) × (start ≡ 8 * g)
+starts_group : (u start : ℕ) → start < u → (start ≡ u) ⊎ ((g : ℕ) × (start ≡ 8 * g))
+    → (g : ℕ) × (start ≡ 8 * g)
 starts_group u start lt (inl e) = absurd (omega (arith, e, lt))
 starts_group u start lt (inr w) = w
 
 pub loop-start-init : goal.loop-start-init
-loop-start-init c = record { most = omega arith; group = inr (0, omega arith); stage = λ first h. h }
+loop-start-init c = record {
+  most = omega arith;
+  group = inr (0, omega arith);
+  stage = λ first h. h;
+}
 
 pub eliminate_group-requires-clause-start : goal.eliminate_group-requires-clause-start
-eliminate_group-requires-clause-start c = starts_group (length c.args.pivots.now) c.loop-start.start (omega (arith, c.loop-start-test.true, c.loop-start.auto.pivots)) c.loop-start.invariant.group
+eliminate_group-requires-clause-start c = starts_group (length c.args.pivots.now) c.loop-start.start
+    (omega (arith, c.loop-start-test.true, c.loop-start.auto.pivots)) c.loop-start.invariant.group
 
 pub loop-start-preserved : goal.loop-start-preserved
 loop-start-preserved c =
@@ -27,13 +35,20 @@ loop-start-preserved c =
     let low : l.start < u = omega (arith, c.loop-start-test.true, l.auto.pivots) in
     record {
       most = omega (arith, c.group_end-end.ensures.within, l.auto.pivots);
-      group = next_start u l.start c.group_end-end.result low l.invariant.group (rw l.auto.pivots at c.group_end-end.ensures.whole);
-      stage = λ first h. subst₂ (λ (n m : ℕ). IsStageIn n m c.group_end-end.result first (bits_of c.args.width w.words) w.pivots w.leads) l.auto.pivots l.auto.leads
-          (c.eliminate_group.ensures first (subst₂ (λ (n m : ℕ). IsStageIn n m l.start first (bits_of c.args.width l.words) l.pivots l.leads) (sym l.auto.pivots) (sym l.auto.leads) (l.invariant.stage first h)));
+      group = next_start u l.start c.group_end-end.result low l.invariant.group
+          (rw l.auto.pivots at c.group_end-end.ensures.whole);
+      stage = λ first h. subst₂ (λ (n m : ℕ). IsStageIn n m c.group_end-end.result first
+          (bits_of c.args.width w.words) w.pivots w.leads) l.auto.pivots l.auto.leads
+          (c.eliminate_group.ensures first
+          (subst₂ (λ (n m : ℕ). IsStageIn n m l.start first (bits_of c.args.width l.words)
+          l.pivots l.leads) (sym l.auto.pivots) (sym l.auto.leads)
+          (l.invariant.stage first h)));
     }
 
 pub returns : goal.returns
 returns c first h =
     let l = c.loop-start in
-    let is : l.start ≡ length c.args.pivots.now = omega (arith, c.loop-start-test.false, l.auto.pivots, l.invariant.most) in
-    subst (λ (i : ℕ). IsStageIn (length c.args.pivots.now) (length c.args.leads.now) i first (bits_of c.args.width l.words) l.pivots l.leads) is (l.invariant.stage first h)
+    let is : l.start ≡ length c.args.pivots.now =
+    omega (arith, c.loop-start-test.false, l.auto.pivots, l.invariant.most) in
+    subst (λ (i : ℕ). IsStageIn (length c.args.pivots.now) (length c.args.leads.now) i first
+    (bits_of c.args.width l.words) l.pivots l.leads) is (l.invariant.stage first h)

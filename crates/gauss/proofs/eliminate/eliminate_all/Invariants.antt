@@ -8,8 +8,10 @@ abbrev pub invariant-loop-start : goal.invariant-loop-start
 invariant-loop-start l = record {
   most : l.start ≤ length l.initial.pivots;
   group : (l.start ≡ length l.initial.pivots) ⊎ ((g : ℕ) × (l.start ≡ 8 * g));
-  stage : (first : ℕ → Set) → IsStageIn (length l.initial.pivots) (length l.initial.leads) 0 first (bits_of l.width l.initial.words) l.initial.pivots l.initial.leads
-      → IsStageIn (length l.initial.pivots) (length l.initial.leads) l.start first (bits_of l.width l.words) l.pivots l.leads;
+  stage : (first : ℕ → Set) → IsStageIn (length l.initial.pivots) (length l.initial.leads) 0 first
+      (bits_of l.width l.initial.words) l.initial.pivots l.initial.leads
+      → IsStageIn (length l.initial.pivots) (length l.initial.leads) l.start first
+      (bits_of l.width l.words) l.pivots l.leads;
 }
 
 abbrev pub decreases-loop-start : goal.decreases-loop-start

@@ -8,6 +8,8 @@ use Rattle.gauss.proofs.eliminate.eliminate_group.Given as goal
 abbrev pub invariant-loop-unknown : goal.invariant-loop-unknown
 invariant-loop-unknown l = record {
   zero : (c : ℕ) → bits_of l.width l.table 0 c ≡ false;
-  stage : (first : ℕ → Set) → IsStageIn (length l.fn.pivots) (length l.fn.leads) l.start first (bits_of l.width l.fn.words) l.fn.pivots l.fn.leads
-      → IsStageIn (length l.fn.pivots) (length l.fn.leads) l.unknown first (virtual (length l.fn.pivots) l.width l.group l.words l.table l.leads) l.pivots l.leads;
+  stage : (first : ℕ → Set) → IsStageIn (length l.fn.pivots) (length l.fn.leads) l.start first
+      (bits_of l.width l.fn.words) l.fn.pivots l.fn.leads
+      → IsStageIn (length l.fn.pivots) (length l.fn.leads) l.unknown first
+      (virtual (length l.fn.pivots) l.width l.group l.words l.table l.leads) l.pivots l.leads;
 }

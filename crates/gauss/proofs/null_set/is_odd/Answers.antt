@@ -15,4 +15,6 @@ unfolding bool_xor
 loop-c-preserved c =
     let mask = bits_of c.args.width c.args.words.now c.args.r in
     let x = flagged c.args.flags.now in
-    ap₂ bool_xor c.loop-c.invariant (both c.has.result (x c.loop-c.c) ∙ ap (λ b. cond b (x c.loop-c.c) false) c.has.ensures) ∙ sym (product_more false bool_xor bit_laws c.loop-c.c mask x)
+    ap₂ bool_xor c.loop-c.invariant (both c.has.result (x c.loop-c.c)
+    ∙ ap (λ b. cond b (x c.loop-c.c) false) c.has.ensures)
+    ∙ sym (product_more false bool_xor bit_laws c.loop-c.c mask x)

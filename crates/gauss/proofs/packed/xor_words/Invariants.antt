@@ -3,6 +3,7 @@ use Rattle.gauss.proofs.packed.xor_words.Given as goal
 
 abbrev pub invariant-loop-k : goal.invariant-loop-k
 invariant-loop-k l = record {
-  done : (j : ℕ) → j < l.k → get_or l.words j 0 ≡ bit_xor (get_or l.initial.words j 0) (get_or l.other j 0);
+  done : (j : ℕ) → j < l.k → get_or l.words j 0 ≡ bit_xor (get_or l.initial.words j 0)
+      (get_or l.other j 0);
   rest : (j : ℕ) → l.k ≤ j → get_or l.words j 0 ≡ get_or l.initial.words j 0;
 }

@@ -1,14 +1,19 @@
 use Rattle.std.proofs.Common.{ℕ, length, bit_xor}
 use Rattle.sparse_rows.proofs.Planes.{byte_laws}
 use Rattle.gauss.specs.Packed.{bits_of, byte_in}
-use Rattle.gauss.specs.Elimination.{row_of}
+use Rattle.gauss.specs.Elimination.{pivot_row}
 use Rattle.gauss.proofs.Passes.{group_step}
 use Rattle.gauss.proofs.substitution.add_group_values.Goals as goal
 
 pub returns : goal.returns
 returns c p t lt lt2 =
     let n : ℕ = c.args.len in
-    group_step 0 bit_xor byte_laws (length c.args.pivots.now) (λ q. bits_of c.args.width c.args.words.now (row_of c.args.rows c.args.pivots.now q)) c.args.group
-    (byte_in n c.args.symbols.now t) (byte_in n c.add_values_within.new.symbols t) (byte_in n c.add_values_before.new.symbols t)
-    (λ q low e. c.add_values_within.ensures.own q t low e lt2) (λ q ne. c.add_values_within.ensures.others q t ne lt2)
-    (λ q low. c.add_values_before.ensures.low q t low lt2) (λ q le. c.add_values_before.ensures.rest q t le lt2) p lt
+    group_step 0 bit_xor byte_laws (length c.args.pivots.now)
+    (λ q. bits_of c.args.width c.args.words.now (pivot_row c.args.rows c.args.pivots.now q))
+    c.args.group
+    (byte_in n c.args.symbols.now t) (byte_in n c.add_values_within.new.symbols t)
+    (byte_in n c.add_values_before.new.symbols t)
+    (λ q low e. c.add_values_within.ensures.own q t low e lt2)
+    (λ q ne. c.add_values_within.ensures.others q t ne lt2)
+    (λ q low. c.add_values_before.ensures.low q t low lt2) (λ q le. c.add_values_before.ensures.rest
+    q t le lt2) p lt

@@ -1,19 +1,30 @@
-use Rattle.std.proofs.Common.{◌≡◌, ◌≢◌, ◌<◌, ◌+◌, ◌-◌, ◌*◌, ◌/◌, ◌&&◌, ◌⊎◌, inl, inr, ℕ, List, length, get_or, ⊎_elim, bit_xor, ltb, refl, sym, ap, ap₂, ◌∙◌, arith}
+use Rattle.std.proofs.Common.{◌≡◌, ◌≢◌, ◌<◌, ◌+◌, ◌-◌, ◌*◌, ◌/◌, ◌&&◌, ◌⊎◌, inl, inr, ℕ, List}
+use Rattle.std.proofs.Common.{length, get_or, ⊎_elim, bit_xor, ltb, refl, sym, ap, ap₂, ◌∙◌, arith}
 use Rattle.std.proofs.Math.Nat.{mul-le-mul_right}
 use Rattle.std.proofs.lemmas.Bool.{cases_eq}
 use Rattle.std.proofs.lemmas.List.{get_or_default}
 use Rattle.sparse_rows.proofs.Planes.{byte_laws}
 use Rattle.gauss.specs.Packed.{bits_of, byte_in}
-use Rattle.gauss.specs.Elimination.{behind, product, row_of}
+use Rattle.gauss.specs.Elimination.{behind, product, pivot_row}
 use Rattle.gauss.specs.Groups.{in_group}
 use Rattle.gauss.proofs.Passes.{behind_in_group, within_group}
 use Rattle.gauss.proofs.substitution.add_values_within.Goals as goal
 
 pub loop-k-init : goal.loop-k-init
-loop-k-init c = record { own = λ p t lt e le. absurd (omega (arith, lt, e, le, c.group_end-end.ensures.whole)); rest = λ p t w lt. refl }
+loop-k-init c = record {
+  own = λ p t lt e le. absurd
+      (omega (arith, lt, e, le, c.group_end-end.ensures.whole));
+  rest = λ p t w lt. refl;
+}
 
 pub add_range-requires-clause-symbols : goal.add_range-requires-clause-symbols
-add_range-requires-clause-symbols c = omega (arith, mul-le-mul_right c.args.len c.group_end-end.ensures.within, c.loop-k.auto.symbols, c.requires.symbols)
+add_range-requires-clause-symbols c =
+    omega (
+      arith,
+      mul-le-mul_right c.args.len c.group_end-end.ensures.within,
+      c.loop-k.auto.symbols,
+      c.requires.symbols,
+    )
 
 pub loop-k-preserved : goal.loop-k-preserved
 loop-k-preserved c =
@@ -26,30 +37,41 @@ loop-k-preserved c =
     let at_group : p / 8 ≡ g = omega (arith, c.loop-k-test.true, c.group_end-end.ensures.few) in
     let i = c.loop-k.invariant in
     let bits = bits_of c.args.width c.args.words.now in
-    let rows = row_of c.args.rows c.args.pivots.now in
-    let row_is : get_or c.args.pivots.now p 0 ≡ rows p = get_or_default c.args.pivots.now p 0 c.args.rows inside in
+    let rows = pivot_row c.args.rows c.args.pivots.now in
+    let row_is : get_or c.args.pivots.now p 0 ≡ rows p = get_or_default c.args.pivots.now p 0
+    c.args.rows inside in
     let first : List ℕ = c.args.symbols.now in
     let old : List ℕ = c.loop-k.symbols in
     let now : List ℕ = c.add_range.new.symbols in
     let ends : (end ≡ u) ⊎ (end ≡ g * 8 + 8) = c.group_end-end.ensures.whole in
-    let others : (q t : ℕ) → q ≢ p → t < n → byte_in n now t q ≡ byte_in n old t q = c.add_range.ensures.others in
-    let at : (t : ℕ) → t < n → byte_in n now t p ≡ bit_xor (byte_in n first t p) (product 0 bit_xor u (in_group g (behind bits rows p)) (byte_in n now t)) = λ t lt.
+    let others : (q t : ℕ) → q ≢ p → t < n → byte_in n now t q ≡ byte_in n old t q =
+    c.add_range.ensures.others in
+    let at : (t : ℕ) → t < n → byte_in n now t p ≡ bit_xor (byte_in n first t p)
+    (product 0 bit_xor u (in_group g (behind bits rows p)) (byte_in n now t)) = λ t lt.
     c.add_range.ensures.symbol t lt
     ∙ ap₂ bit_xor (i.rest p t (inl (omega (arith, c.loop-k-test.true))) lt)
     (ap (λ r. product 0 bit_xor end (λ d. ltb p d && bits r d) (byte_in n old t)) row_is
-    ∙ within_group 0 bit_xor byte_laws u g p end (bits (rows p)) (byte_in n old t) at_group c.group_end-end.ensures.within (omega (arith, c.group_end-end.ensures.few)) ends
-    ∙ behind_in_group 0 bit_xor byte_laws u g p (bits (rows p)) (byte_in n old t) (byte_in n now t) (λ d gt. sym (others d t (λ e. omega (arith, e, gt)) lt))) in
+    ∙ within_group 0 bit_xor byte_laws u g p end (bits (rows p)) (byte_in n old t) at_group
+    c.group_end-end.ensures.within (omega (arith, c.group_end-end.ensures.few)) ends
+    ∙ behind_in_group 0 bit_xor byte_laws u g p (bits (rows p)) (byte_in n old t) (byte_in n now t)
+    (λ d gt. sym (others d t (λ e. omega (arith, e, gt)) lt))) in
     record {
       own = λ q t lt e le lt2. ⊎_elim
           (λ (f : q ≡ p). rw f (at t lt2))
           (λ ne. others q t ne lt2 ∙ i.own q t lt e (omega (arith, ne, le, c.loop-k-test.true)) lt2
-          ∙ ap (bit_xor (byte_in n first t q)) (behind_in_group 0 bit_xor byte_laws u g q (bits (rows q)) (byte_in n old t) (byte_in n now t) (λ d gt. sym (others d t (λ f. omega (arith, f, ne, gt, le, c.loop-k-test.true)) lt2))))
+          ∙ ap (bit_xor (byte_in n first t q)) (behind_in_group 0 bit_xor byte_laws u g q
+          (bits (rows q)) (byte_in n old t) (byte_in n now t)
+          (λ d gt. sym (others d t (λ f. omega (arith, f, ne, gt, le, c.loop-k-test.true))
+          lt2))))
           (cases_eq q p);
-      rest = λ q t w lt2. others q t (⊎_elim (λ low e. omega (arith, low, e, c.loop-k-test.true)) (λ ne e. ne (omega (arith, e, at_group))) w) lt2 ∙ i.rest q t (⊎_elim (λ low. inl (omega (arith, low))) (λ ne. inr ne) w) lt2;
+      rest = λ q t w lt2. others q t (⊎_elim (λ low e. omega (arith, low, e, c.loop-k-test.true))
+          (λ ne e. ne (omega (arith, e, at_group))) w) lt2
+          ∙ i.rest q t (⊎_elim (λ low. inl (omega (arith, low))) (λ ne. inr ne) w) lt2;
     }
 
 pub returns-clause-own : goal.returns-clause-own
-returns-clause-own c p t lt e lt2 = c.loop-k.invariant.own p t lt e (omega (arith, c.loop-k-test.false, e)) lt2
+returns-clause-own c p t lt e lt2 = c.loop-k.invariant.own p t lt e
+    (omega (arith, c.loop-k-test.false, e)) lt2
 
 pub returns-clause-others : goal.returns-clause-others
 returns-clause-others c p t ne lt = c.loop-k.invariant.rest p t (inr ne) lt

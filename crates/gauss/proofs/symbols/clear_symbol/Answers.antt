@@ -9,4 +9,5 @@ returns-clause-others c q t ne lt =
     let same = part_length c.args.symbols.now a (a + n - a) n (omega arith) c.requires in
     let long : length c.fill.new.self ≡ a + n - a = c.fill.auto.self ∙ same ∙ omega arith in
     let count : a + (a + n - a) ≡ a + n = omega arith in
-    put_outside c.args.symbols.now c.fill.new.self a (a + n - a) (omega (arith, c.requires)) long (q * n + t) (rw count (apart n q c.args.c t ne lt))
+    put_outside c.args.symbols.now c.fill.new.self a (a + n - a) (omega (arith, c.requires)) long
+    (q * n + t) (rw count (apart n q c.args.c t ne lt))

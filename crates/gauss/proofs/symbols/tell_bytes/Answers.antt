@@ -3,4 +3,5 @@ use Rattle.std.proofs.lemmas.List.Elements.{All-from_get_or}
 use Rattle.gauss.proofs.symbols.tell_bytes.Goals as goal
 
 pub returns : goal.returns
-returns c = All-from_get_or (λ byte. byte < 256) c.args.symbols.now 0 (λ i lt. omega (arith, c.type_inv.symbols i))
+returns c = All-from_get_or (λ byte. byte < 256) c.args.symbols.now 0
+    (λ i lt. omega (arith, c.type_inv.symbols i))

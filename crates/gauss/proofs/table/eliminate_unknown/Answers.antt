@@ -1,4 +1,5 @@
-use Rattle.std.proofs.Common.{◌*◌, ◌/◌, ◌%◌, ◌^◌, ◌==◌, ◌<◌, ℕ, false, cond, length, inr, refl, ap, ap₂, ◌∙◌, arith}
+use Rattle.std.proofs.Common.{◌*◌, ◌/◌, ◌%◌, ◌^◌, ◌==◌, ◌<◌, ℕ, false, cond, length, inr, refl, ap}
+use Rattle.std.proofs.Common.{ap₂, ◌∙◌, arith}
 use Rattle.std.proofs.Math.Bool.{xor as bool_xor}
 use Rattle.std.proofs.lemmas.Nat.Bits.{bit_at-zero}
 use Rattle.sparse_rows.proofs.Parity.{bit_laws}
@@ -16,12 +17,15 @@ returns-clause-step c =
     let word : g / 8 < w = omega (arith, c.requires.group, inside) in
     inr (
       t,
-      step_is u w g c.args.unknown t (length c.args.leads.now) c.args.words.now c.add_row.new.words c.flip.new.words c.args.table.now c.update.new.table c.args.pivots.now c.args.leads.now
+      step_is u w g c.args.unknown t (length c.args.leads.now) c.args.words.now c.add_row.new.words
+          c.flip.new.words c.args.table.now c.update.new.table c.args.pivots.now c.args.leads.now
           c.in-Some.ensures c.requires.unknown refl c.requires.group inside
-          (λ d. c.add_row.ensures.row d ∙ ap (λ b. bool_xor (bits_of w c.args.words.now t d) (bits_of w c.args.table.now b d)) c.byte_of-byte.ensures.value)
+          (λ d. c.add_row.ensures.row d ∙ ap (λ b. bool_xor (bits_of w c.args.words.now t d)
+          (bits_of w c.args.table.now b d)) c.byte_of-byte.ensures.value)
           c.flip.ensures.row
           (λ j d ne. c.flip.ensures.others j d ne ∙ c.add_row.ensures.others j d ne)
-          (λ j ne. ap (λ n. n / 2 ^ (g % 8 * 8) % 256) (c.flip.ensures.words j (g / 8) ne word ∙ c.add_row.ensures.words j (g / 8) ne word))
+          (λ j ne. ap (λ n. n / 2 ^ (g % 8 * 8) % 256) (c.flip.ensures.words j (g / 8) ne word
+          ∙ c.add_row.ensures.words j (g / 8) ne word))
           (λ j. omega arith)
           c.update.ensures,
     )
@@ -30,6 +34,10 @@ pub returns-clause-zero : goal.returns-clause-zero
 returns-clause-zero c d =
     let w : ℕ = c.args.width in
     c.update.ensures 0 d (omega arith)
-    ∙ ap₂ (λ x y. cond (bool_xor (x == 1) y) (bool_xor (bits_of w c.args.table.now 0 d) (bits_of w c.flip.new.words c.in-Some.pivot d)) (bits_of w c.args.table.now 0 d)) (bit_at-zero (c.args.unknown % 8)) (c.requires.zero c.args.unknown)
-    ∙ ap (λ b. cond b (bool_xor (bits_of w c.args.table.now 0 d) (bits_of w c.flip.new.words c.in-Some.pivot d)) (bits_of w c.args.table.now 0 d)) (bit_laws.self false)
+    ∙ ap₂ (λ x y. cond (bool_xor (x == 1) y) (bool_xor (bits_of w c.args.table.now 0 d)
+    (bits_of w c.flip.new.words c.in-Some.pivot d)) (bits_of w c.args.table.now 0 d))
+    (bit_at-zero (c.args.unknown % 8)) (c.requires.zero c.args.unknown)
+    ∙ ap (λ b. cond b (bool_xor (bits_of w c.args.table.now 0 d)
+    (bits_of w c.flip.new.words c.in-Some.pivot d)) (bits_of w c.args.table.now 0 d))
+    (bit_laws.self false)
     ∙ c.requires.zero d

@@ -4,4 +4,5 @@ use Rattle.gauss.specs.Table.{virtual}
 use Rattle.gauss.proofs.table.find_pivot.Given as goal
 
 abbrev pub invariant-loop-r : goal.invariant-loop-r
-invariant-loop-r l = (j : ℕ) → j < l.r → l.unknowns ≤ lead_of l.unknowns l.leads j → virtual l.unknowns l.width l.group l.words l.table l.leads j l.unknown ≡ false
+invariant-loop-r l = (j : ℕ) → j < l.r → l.unknowns ≤ lead_of l.unknowns l.leads j
+    → virtual l.unknowns l.width l.group l.words l.table l.leads j l.unknown ≡ false

@@ -12,7 +12,11 @@ loop-byte-preserved c =
     record {
       done = λ b d lt. ⊎_elim
           (λ (e : b ≡ k). rw e (c.update_row.ensures.row d
-          ∙ ap₂ (λ x y. cond (bool_xor (bit_at k (c.args.unknown % 8) == 1) x) (bool_xor y (bits_of c.args.width c.args.words.now c.args.t d)) y) (i.rest k c.args.unknown (omega arith)) (i.rest k d (omega arith))))
-          (λ ne. c.update_row.ensures.others b d ne ∙ i.done b d (omega (arith, ne))) (cases_eq b k);
-      rest = λ b d le. c.update_row.ensures.others b d (λ e. omega (arith, e)) ∙ i.rest b d (omega arith);
+          ∙ ap₂ (λ x y. cond (bool_xor (bit_at k (c.args.unknown % 8) == 1) x)
+          (bool_xor y (bits_of c.args.width c.args.words.now c.args.t d)) y)
+          (i.rest k c.args.unknown (omega arith)) (i.rest k d (omega arith))))
+          (λ ne. c.update_row.ensures.others b d ne ∙ i.done b d (omega (arith, ne)))
+          (cases_eq b k);
+      rest = λ b d le. c.update_row.ensures.others b d (λ e. omega (arith, e))
+          ∙ i.rest b d (omega arith);
     }

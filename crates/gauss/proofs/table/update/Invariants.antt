@@ -6,6 +6,9 @@ use Rattle.gauss.proofs.table.update.Given as goal
 
 abbrev pub invariant-loop-byte : goal.invariant-loop-byte
 invariant-loop-byte l = record {
-  done : (b c : ℕ) → b < l.byte → bits_of l.width l.table b c ≡ cond (bool_xor (bit_at b (l.unknown % 8) == 1) (bits_of l.width l.initial.table b l.unknown)) (bool_xor (bits_of l.width l.initial.table b c) (bits_of l.width l.words l.t c)) (bits_of l.width l.initial.table b c);
+  done : (b c : ℕ) → b < l.byte → bits_of l.width l.table b c
+      ≡ cond (bool_xor (bit_at b (l.unknown % 8) == 1) (bits_of l.width l.initial.table b
+      l.unknown)) (bool_xor (bits_of l.width l.initial.table b c) (bits_of l.width l.words l.t c))
+      (bits_of l.width l.initial.table b c);
   rest : (b c : ℕ) → l.byte ≤ b → bits_of l.width l.table b c ≡ bits_of l.width l.initial.table b c;
 }

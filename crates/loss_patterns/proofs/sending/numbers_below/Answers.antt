@@ -13,4 +13,5 @@ pub loop-number-preserved : goal.loop-number-preserved
 loop-number-preserved c =
     let n = c.loop-number.number in
     let place : n ≡ 0 + n = omega arith in
-    c.in_ok-push.ensures.items ∙ (ap (λ l. l ++ n ∷ []) c.loop-number.invariant ∙ (ap (λ (k : ℕ). range_with_len 0 n ++ k ∷ []) place ∙ sym (range_more 0 n)))
+    c.in_ok-push.ensures.items ∙ (ap (λ l. l ++ n ∷ []) c.loop-number.invariant
+    ∙ (ap (λ (k : ℕ). range_with_len 0 n ++ k ∷ []) place ∙ sym (range_more 0 n)))

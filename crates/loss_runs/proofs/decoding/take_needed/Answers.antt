@@ -1,4 +1,5 @@
-use Rattle.std.proofs.Common.{◌≡◌, ℕ, ◌<◌, ◌≤◌, ⊎_elim, length, take, slice_index, true≢false, refl, sym, ◌∙◌, subst, arith, eq-or-lt_of_le}
+use Rattle.std.proofs.Common.{◌≡◌, ℕ, ◌<◌, ◌≤◌, ⊎_elim, length, take, slice_index, true≢false, refl}
+use Rattle.std.proofs.Common.{sym, ◌∙◌, subst, arith, eq-or-lt_of_le}
 use Rattle.sparse_rows.specs.Determined.{HoldsSource}
 use Rattle.loss_runs.specs.Trials.{arrivals_of}
 use Rattle.loss_runs.proofs.Arriving.{known_from_holds, length_arrivals, stands_more}
@@ -18,12 +19,15 @@ loop-i-preserved c =
     record {
       matrix = received.code ∙ so_far.matrix;
       len = received.len ∙ so_far.len;
-      stands = stands_more m len word c.requires.codeword c.loop-i.core c.arrive.new.self kept i p c.symbol.result.now
+      stands = stands_more m len word c.requires.codeword c.loop-i.core c.arrive.new.self kept i p
+          c.symbol.result.now
           so_far.stands received lt refl (c.requires.below i 0 lt) c.symbol.ensures;
       not_before = λ q below. ⊎_elim
-          (λ (same : q ≡ i). subst (λ (j : ℕ). ¬ HoldsSource m (take j (arrivals_of len word kept))) (sym same)
+          (λ (same : q ≡ i). subst (λ (j : ℕ). ¬ HoldsSource m (take j (arrivals_of len word kept)))
+          (sym same)
           (λ holds. true≢false (sym (c.has_all_source.ensures.1
-          (known_from_holds c.loop-i.core m (take i (arrivals_of len word kept)) so_far.stands so_far.matrix holds)) ∙ c.if-has_all_source.false)))
+          (known_from_holds c.loop-i.core m (take i (arrivals_of len word kept)) so_far.stands
+          so_far.matrix holds)) ∙ c.if-has_all_source.false)))
           (λ (less : q < i). so_far.not_before q less)
           (eq-or-lt_of_le (let le : q ≤ i = omega (arith, below) in le));
     }
@@ -37,8 +41,15 @@ returns-clause-never c = λ q within.
     let i = c.loop-i.i in
     let so_far = c.loop-i.invariant in
     ⊎_elim
-    (λ (same : q ≡ i). subst (λ (j : ℕ). ¬ HoldsSource m (take j (arrivals_of len word kept))) (sym same)
+    (λ (same : q ≡ i). subst (λ (j : ℕ). ¬ HoldsSource m (take j (arrivals_of len word kept)))
+    (sym same)
     (λ holds. true≢false (sym (c.has_all_source-2.ensures.1
-    (known_from_holds c.loop-i.core m (take i (arrivals_of len word kept)) so_far.stands so_far.matrix holds)) ∙ c.if-has_all_source-2.false)))
+    (known_from_holds c.loop-i.core m (take i (arrivals_of len word kept)) so_far.stands
+    so_far.matrix holds)) ∙ c.if-has_all_source-2.false)))
     (λ (less : q < i). so_far.not_before q less)
-    (eq-or-lt_of_le (let le : q ≤ i = omega (arith, within, length_arrivals len word kept, c.loop-i-test.false) in le))
+    (eq-or-lt_of_le (let le : q ≤ i = omega (
+      arith,
+      within,
+      length_arrivals len word kept,
+      c.loop-i-test.false,
+    ) in le))

@@ -1,4 +1,5 @@
-use Rattle.std.proofs.Common.{◌≡◌, ℕ, List, ◌++◌, length, codes, decimal, Result, Ok, Err, IfOk, string_bytes, append_assoc, sym, ap₂, ◌∙◌}
+use Rattle.std.proofs.Common.{◌≡◌, ℕ, List, ◌++◌, length, codes, decimal, Result, Ok, Err, IfOk}
+use Rattle.std.proofs.Common.{string_bytes, append_assoc, sym, ap₂, ◌∙◌}
 use Rattle.loss_runs.specs.Kept.{AreSums}
 use Rattle.loss_runs.specs.Lines.{count_ends, is_peeled, is_solved, is_undetermined, sum_line}
 use Rattle.loss_runs.specs.declared.lines.Sums.{Sums}
@@ -22,7 +23,8 @@ text_is : (count : ℕ) (sums : Sums) (results : List RunResult) → length resu
     → text count sums.peeled sums.solved sums.undetermined ≡ sum_line results
 text_is count sums results long are =
     ap₂ (λ (k p : ℕ). text k p sums.solved sums.undetermined) (sym long) are.peeled
-    ∙ ap₂ (λ (s u : ℕ). text (length results) (count_ends is_peeled results) s u) are.solved are.undetermined
+    ∙ ap₂ (λ (s u : ℕ). text (length results) (count_ends is_peeled results) s u) are.solved
+    are.undetermined
     ∙ sym (regroup (codes "runs ") (decimal (length results)) (codes " peeled ")
     (decimal (count_ends is_peeled results)) (codes " solved ")
     (decimal (count_ends is_solved results)) (codes " undetermined ")
@@ -37,4 +39,5 @@ of_text bytes (Ok line) count sums is =
 of_text bytes (Err e) count sums is = is
 
 pub returns : goal.returns
-returns c = of_text (λ line. string_bytes line) c.format.result c.args.count c.args.sums c.format.ensures.ok
+returns c = of_text (λ line. string_bytes line) c.format.result c.args.count c.args.sums
+    c.format.ensures.ok

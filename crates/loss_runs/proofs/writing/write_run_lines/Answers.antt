@@ -13,9 +13,19 @@ returns-in_err-made-clause-cut g c = λ is.
     let (results, are, long, sums, lines) = so_far.made in
     let (made, ran, cut) = c.in_err-made.ensures.cut (search rules) in (
       results ++ made ∷ [],
-      are_more t its.trial word its.word results (held c.args.output.now) (held c.loop.output) (held c.write_run.new.output) c.loop.counter its.done made so_far.trial so_far.word so_far.done are long lines ran,
-      omega (arith, long_more t its.trial word its.word results (held c.args.output.now) (held c.loop.output) (held c.write_run.new.output) c.loop.counter its.done made so_far.trial so_far.word so_far.done are long lines ran, c.loop-test.true),
-      line_cut t its.trial word its.word results (held c.args.output.now) (held c.loop.output) (held c.write_run.new.output) c.loop.counter its.done made so_far.trial so_far.word so_far.done are long lines ran cut,
+      are_more t its.trial word its.word results (held c.args.output.now) (held c.loop.output)
+          (held c.write_run.new.output) c.loop.counter its.done made so_far.trial so_far.word
+          so_far.done are long lines ran,
+      omega (
+        arith,
+        long_more t its.trial word its.word results (held c.args.output.now)
+            (held c.loop.output) (held c.write_run.new.output) c.loop.counter its.done made
+            so_far.trial so_far.word so_far.done are long lines ran,
+        c.loop-test.true,
+      ),
+      line_cut t its.trial word its.word results (held c.args.output.now) (held c.loop.output)
+          (held c.write_run.new.output) c.loop.counter its.done made so_far.trial so_far.word
+          so_far.done are long lines ran cut,
     )
 
 pub loop-preserved : goal.loop-preserved
@@ -35,10 +45,16 @@ loop-preserved g c =
       done = ap (λ (r : Running). r.done) next ∙ omega (arith, so_far.done);
       made = (
         results ++ made ∷ [],
-        are_more t its.trial word its.word results (held c.args.output.now) (held c.loop.output) (held c.write_run.new.output) c.loop.counter its.done made so_far.trial so_far.word so_far.done are long lines ran,
-        long_more t its.trial word its.word results (held c.args.output.now) (held c.loop.output) (held c.write_run.new.output) c.loop.counter its.done made so_far.trial so_far.word so_far.done are long lines ran,
+        are_more t its.trial word its.word results (held c.args.output.now) (held c.loop.output)
+            (held c.write_run.new.output) c.loop.counter its.done made so_far.trial so_far.word
+            so_far.done are long lines ran,
+        long_more t its.trial word its.word results (held c.args.output.now) (held c.loop.output)
+            (held c.write_run.new.output) c.loop.counter its.done made so_far.trial so_far.word
+            so_far.done are long lines ran,
         c.and-sums.ensures results sums,
-        lines_appended t its.trial word its.word results (held c.args.output.now) (held c.loop.output) (held c.write_run.new.output) c.loop.counter its.done made so_far.trial so_far.word so_far.done are long lines ran c.in_ok-made.ensures.written,
+        lines_appended t its.trial word its.word results (held c.args.output.now)
+            (held c.loop.output) (held c.write_run.new.output) c.loop.counter its.done made
+            so_far.trial so_far.word so_far.done are long lines ran c.in_ok-made.ensures.written,
       );
       later = omega (arith, so_far.later, c.write_run.ensures.later);
     }

@@ -3,4 +3,5 @@ use Rattle.sparse_rows.specs.Closure.{flagged}
 use Rattle.null_witness.proofs.check_word.are_missing.Given as goal
 
 abbrev pub invariant-loop-position : goal.invariant-loop-position
-invariant-loop-position l = (i : ℕ) → i < l.position-index → (get_or l.word i 0 < length l.arrived) × (flagged l.arrived (get_or l.word i 0) ≡ false)
+invariant-loop-position l = (i : ℕ) → i < l.position-index → (get_or l.word i 0 < length l.arrived)
+    × (flagged l.arrived (get_or l.word i 0) ≡ false)

@@ -5,7 +5,8 @@ use Rattle.null_witness.proofs.First.{first_is_one}
 use Rattle.null_witness.proofs.laws.null_words_follow_the_closure.Goals as goal
 
 pub returns-clause-closure : goal.returns-clause-closure
-returns-clause-closure c m s word = (null_closure m s word, null_subset m s _ word (rounds_hold m m.n s))
+returns-clause-closure c m s word =
+    (null_closure m s word, null_subset m s _ word (rounds_hold m m.n s))
 
 pub returns-clause-subset : goal.returns-clause-subset
 returns-clause-subset c m small large word h null = null_subset m small large word h null

@@ -13,5 +13,10 @@ returns-clause-spelled c = λ bytes four all.
     let fits : number < 2 ^ 32 = big_from-lt 0 4 bytes are_bytes in
     let id : PacketId = record { sbn = number / 2 ^ 20; esi = number % 2 ^ 20 } in
     let joined : number ≡ number / 2 ^ 20 * 2 ^ 20 + number % 2 ^ 20 = omega arith in
-    let spelled : bytes ≡ big_bytes 4 number = sym (bytes_again 4 bytes (omega (arith, four)) are_bytes ∙ take_all 4 bytes (omega (arith, four))) in
-    (id, record { sbn_bits = omega (arith, fits); esi_bits = omega arith }, spelled ∙ ap (big_bytes 4) joined)
+    let spelled : bytes ≡ big_bytes 4 number =
+    sym (bytes_again 4 bytes (omega (arith, four)) are_bytes
+    ∙ take_all 4 bytes (omega (arith, four))) in (
+      id,
+      record { sbn_bits = omega (arith, fits); esi_bits = omega arith },
+      spelled ∙ ap (big_bytes 4) joined,
+    )

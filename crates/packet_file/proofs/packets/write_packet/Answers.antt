@@ -14,19 +14,27 @@ write_id-requires g c = ids_fit c.args.h.now c.args.id c.oti.ensures.header c.re
 pub returns-clause-written : goal.returns-clause-written
 returns-clause-written g c =
     let held = g.K.Sink.held in
-    let whole = subst (Appends (held c.args.sink.now) (held c.write_all.new.sink)) c.write_id.ensures c.in_ok-write_all.ensures.bytes in
-    Appends-trans (held c.args.sink.now) (held c.write_all.new.sink) (held c.write_all-2.new.sink) (id_bytes c.args.id) c.args.symbol.now whole c.in_ok-write_all-2.ensures.bytes
+    let whole = subst (Appends (held c.args.sink.now) (held c.write_all.new.sink))
+    c.write_id.ensures c.in_ok-write_all.ensures.bytes in
+    Appends-trans (held c.args.sink.now) (held c.write_all.new.sink) (held c.write_all-2.new.sink)
+    (id_bytes c.args.id) c.args.symbol.now whole c.in_ok-write_all-2.ensures.bytes
 
 pub returns-in_err-write_all-clause-cut : goal.returns-in_err-write_all-clause-cut
 returns-in_err-write_all-clause-cut g c =
     let held = g.K.Sink.held in
-    let cut = subst (AppendsFront (held c.args.sink.now) (held c.write_all.new.sink)) c.write_id.ensures c.in_err-write_all.ensures.cut in
-    on_err c.from_residual.result (AppendsFront (held c.args.sink.now) (held c.write_all.new.sink) (packet_bytes c.args.id c.args.symbol.now))
-    (cut_longer (held c.args.sink.now) (held c.write_all.new.sink) (id_bytes c.args.id) c.args.symbol.now cut)
+    let cut = subst (AppendsFront (held c.args.sink.now) (held c.write_all.new.sink))
+    c.write_id.ensures c.in_err-write_all.ensures.cut in
+    on_err c.from_residual.result (AppendsFront (held c.args.sink.now) (held c.write_all.new.sink)
+    (packet_bytes c.args.id c.args.symbol.now))
+    (cut_longer (held c.args.sink.now) (held c.write_all.new.sink) (id_bytes c.args.id)
+    c.args.symbol.now cut)
 
 pub returns-in_err-write_all-2-clause-cut : goal.returns-in_err-write_all-2-clause-cut
 returns-in_err-write_all-2-clause-cut g c =
     let held = g.K.Sink.held in
-    let whole = subst (Appends (held c.args.sink.now) (held c.write_all.new.sink)) c.write_id.ensures c.in_ok-write_all.ensures.bytes in
-    on_err c.from_residual-in_err-write_all-2.result (AppendsFront (held c.args.sink.now) (held c.write_all-2.new.sink) (packet_bytes c.args.id c.args.symbol.now))
-    (cut_behind (held c.args.sink.now) (held c.write_all.new.sink) (held c.write_all-2.new.sink) (id_bytes c.args.id) c.args.symbol.now whole c.in_err-write_all-2.ensures.cut)
+    let whole = subst (Appends (held c.args.sink.now) (held c.write_all.new.sink))
+    c.write_id.ensures c.in_ok-write_all.ensures.bytes in
+    on_err c.from_residual-in_err-write_all-2.result (AppendsFront (held c.args.sink.now)
+    (held c.write_all-2.new.sink) (packet_bytes c.args.id c.args.symbol.now))
+    (cut_behind (held c.args.sink.now) (held c.write_all.new.sink) (held c.write_all-2.new.sink)
+    (id_bytes c.args.id) c.args.symbol.now whole c.in_err-write_all-2.ensures.cut)

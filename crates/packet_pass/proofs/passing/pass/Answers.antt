@@ -19,9 +19,13 @@ returns-in_err-header-clause-ends g c =
     let sink = g.K.Sink.faults c.args.output.now in
     let fault = c.in_err-header.field-0.0 in
     let same : c.from_residual.result ≡ Err (File fault) = search rules in
-    let ends = ends_in_header c.args.pass c.args.most (left before) (left now) held (faults before) (faults now) sink fault
-    (λ is. c.in_err-header.ensures.cut (ap Err is)) (λ is. c.in_err-header.ensures.read (ap Err is)) c.in_err-header.ensures.fault in
-    subst (λ (r : Result Passed PassRefusal). IfErr r (PassEnds c.args.pass c.args.most (left before) (left now) held held (faults before) (faults now) sink sink)) (sym same) ends
+    let ends = ends_in_header c.args.pass c.args.most (left before) (left now) held (faults before)
+    (faults now) sink fault
+    (λ is. c.in_err-header.ensures.cut (ap Err is)) (λ is. c.in_err-header.ensures.read (ap Err is))
+    c.in_err-header.ensures.fault in
+    subst (λ (r : Result Passed PassRefusal). IfErr r
+    (PassEnds c.args.pass c.args.most (left before) (left now) held held (faults before)
+    (faults now) sink sink)) (sym same) ends
 
 pub returns-in_err-packets-clause-ends : goal.returns-in_err-packets-clause-ends
 returns-in_err-packets-clause-ends g c =
@@ -42,12 +46,18 @@ returns-in_err-packets-clause-ends g c =
     let same : c.from_residual-in_err-packets.result ≡ Err refusal = search rules in
     let at_head = c.in_ok-writer.ensures.pass in
     let behind = c.put_head.ensures.pass ∙ at_head in
-    let written = subst (λ (p : Pass). Appends (held out) (held out_mid) (head_of p h)) at_head c.in_ok-put_head.ensures.written in
-    let early = subst (λ (p : Pass). EndsEarly p most h [] [] (left mid) (left now) (held out_mid) (held out_now) (faults mid) (faults now) (sink out_mid) (sink out_now) refusal)
+    let written = subst (λ (p : Pass). Appends (held out) (held out_mid) (head_of p h)) at_head
+    c.in_ok-put_head.ensures.written in
+    let early = subst (λ (p : Pass). EndsEarly p most h [] [] (left mid) (left now) (held out_mid)
+    (held out_now) (faults mid) (faults now) (sink out_mid) (sink out_now) refusal)
     behind c.in_err-packets.ensures.ends in
-    let ends = ends_early pass most h (left before) (left mid) (left now) (held out) (held out_mid) (held out_now) c.in_ok-header.ensures.header c.in_ok-header.ensures.bytes written
-    (faults before) (faults mid) (faults now) (sink out) (sink out_mid) (sink out_now) c.read_header.ensures.later c.put_head.ensures.cause.later refusal early in
-    subst (λ (r : Result Passed PassRefusal). IfErr r (PassEnds pass most (left before) (left now) (held out) (held out_now) (faults before) (faults now) (sink out) (sink out_now))) (sym same) ends
+    let ends = ends_early pass most h (left before) (left mid) (left now) (held out) (held out_mid)
+    (held out_now) c.in_ok-header.ensures.header c.in_ok-header.ensures.bytes written
+    (faults before) (faults mid) (faults now) (sink out) (sink out_mid) (sink out_now)
+    c.read_header.ensures.later c.put_head.ensures.cause.later refusal early in
+    subst (λ (r : Result Passed PassRefusal). IfErr r (PassEnds pass most (left before) (left now)
+    (held out) (held out_now) (faults before) (faults now) (sink out) (sink out_now)))
+    (sym same) ends
 
 pub returns-clause-whole : goal.returns-clause-whole
 returns-clause-whole g c =
@@ -64,13 +74,18 @@ returns-clause-whole g c =
     let count = c.in_ok-packets.packets in
     let at_head = c.in_ok-writer.ensures.pass in
     let behind = c.put_head.ensures.pass ∙ at_head in
-    let written = subst (λ (p : Pass). Appends (held out) (held out_mid) (head_of p h)) at_head c.in_ok-put_head.ensures.written in
-    let whole = subst (λ (p : Pass). EndsWhole p c.args.most h [] [] (left mid) (left now) (held out_mid) (held out_now) count) behind c.in_ok-packets.ensures.whole in
+    let written = subst (λ (p : Pass). Appends (held out) (held out_mid) (head_of p h)) at_head
+    c.in_ok-put_head.ensures.written in
+    let whole = subst (λ (p : Pass). EndsWhole p c.args.most h [] [] (left mid) (left now)
+    (held out_mid) (held out_now) count) behind c.in_ok-packets.ensures.whole in
     let w = c.pass_packets.new.writer in
     let has = c.in_ok-packets.ensures.written in
     record {
       header = h;
       is_header = c.in_ok-header.ensures.header;
-      ends = ends_whole pass c.args.most h (left before) (left mid) (left now) (held out) (held out_mid) (held out_now) c.in_ok-header.ensures.header c.in_ok-header.ensures.bytes written count whole;
-      kept = kept_by pass w.pass w.thinning.kind w.thinning.seed w.thinning.done count c.kept.result c.kept.ensures has.kind has.seed has.done (c.pass_packets.ensures.pass ∙ behind);
+      ends = ends_whole pass c.args.most h (left before) (left mid) (left now) (held out)
+          (held out_mid) (held out_now) c.in_ok-header.ensures.header c.in_ok-header.ensures.bytes
+          written count whole;
+      kept = kept_by pass w.pass w.thinning.kind w.thinning.seed w.thinning.done count c.kept.result
+          c.kept.ensures has.kind has.seed has.done (c.pass_packets.ensures.pass ∙ behind);
     }

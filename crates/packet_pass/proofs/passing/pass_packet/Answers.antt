@@ -17,6 +17,9 @@ returns-in_err-id-clause-ends g c =
     let h = c.args.header.now in
     let fault = c.in_err-id.field-0.0 in
     let same : c.from_residual.result ≡ Err (File fault) = search rules in
-    let ends = ends_at_fault pass c.args.most h c.args.index (left before) (left now) held (faults before) (faults now) sink fault
-    (λ is. c.in_err-id.ensures.cut (ap Err is)) (λ is. c.in_err-id.ensures.read (ap Err is)) c.in_err-id.ensures.fault in
-    subst (λ (r : Result Bool PassRefusal). IfErr r (EndsAtPacket pass c.args.most h c.args.index (left before) (left now) held held (faults before) (faults now) sink sink)) (sym same) ends
+    let ends = ends_at_fault pass c.args.most h c.args.index (left before) (left now) held
+    (faults before) (faults now) sink fault
+    (λ is. c.in_err-id.ensures.cut (ap Err is)) (λ is. c.in_err-id.ensures.read (ap Err is))
+    c.in_err-id.ensures.fault in
+    subst (λ (r : Result Bool PassRefusal). IfErr r (EndsAtPacket pass c.args.most h c.args.index
+    (left before) (left now) held held (faults before) (faults now) sink sink)) (sym same) ends

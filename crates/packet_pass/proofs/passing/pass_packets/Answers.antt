@@ -1,4 +1,5 @@
-use Rattle.std.proofs.Common.{rules, ℕ, ◌≡◌, ◌++◌, ◌∷◌, [], Result, Ok, Err, IfErr, ap, sym, ◌∙◌, subst, arith, length-append}
+use Rattle.std.proofs.Common.{rules, ℕ, ◌≡◌, ◌++◌, ◌∷◌, [], Result, Ok, Err, IfErr, ap, sym, ◌∙◌}
+use Rattle.std.proofs.Common.{subst, arith, length-append}
 use Rattle.packet_pass.specs.Writing.{EndsAtPacket, EndsEarly, PassesOne}
 use Rattle.packet_pass.specs.declared.kind.Pass.{Pass}
 use Rattle.packet_pass.specs.declared.kind.PassRefusal.{PassRefusal}
@@ -23,11 +24,18 @@ returns-in_err-pass_packet-clause-ends g c =
     let so_far = c.loop-index.invariant in
     let refusal = c.in_err-pass_packet.field-0.0 in
     let same : c.from_residual.result ≡ Err refusal = search rules in
-    let here = subst (λ (p : Pass). EndsAtPacket p c.args.most h index (left mid) (left now) (held out_mid) (held out_now) (faults mid) (faults now) (sink out_mid) (sink out_now) refusal)
+    let here = subst (λ (p : Pass). EndsAtPacket p c.args.most h index (left mid) (left now)
+    (held out_mid) (held out_now) (faults mid) (faults now) (sink out_mid) (sink out_now)
+    refusal)
     so_far.pass c.in_err-pass_packet.ensures.ends in
-    let ends = ends_behind pass c.args.most h (left before) (left mid) (left now) (held out) (held out_mid) (held out_now) (faults before) (faults mid) (faults now) (sink out) (sink out_mid) (sink out_now)
-    so_far.came.0 index so_far.came.1 so_far.came.2 so_far.few so_far.later so_far.sink_later refusal here in
-    subst (λ (r : Result ℕ PassRefusal). IfErr r (EndsEarly pass c.args.most h [] [] (left before) (left now) (held out) (held out_now) (faults before) (faults now) (sink out) (sink out_now))) (sym same) ends
+    let ends = ends_behind pass c.args.most h (left before) (left mid) (left now) (held out)
+    (held out_mid) (held out_now) (faults before) (faults mid) (faults now) (sink out)
+    (sink out_mid) (sink out_now)
+    so_far.came.0 index so_far.came.1 so_far.came.2 so_far.few so_far.later so_far.sink_later
+    refusal here in
+    subst (λ (r : Result ℕ PassRefusal). IfErr r (EndsEarly pass c.args.most h [] [] (left before)
+    (left now) (held out) (held out_now) (faults before) (faults now) (sink out)
+    (sink out_now))) (sym same) ends
 
 pub loop-index-preserved : goal.loop-index-preserved
 loop-index-preserved g c =
@@ -39,14 +47,18 @@ loop-index-preserved g c =
     let so_far = c.loop-index.invariant in
     let there = ap Ok c.if-not-branch.false in
     let next = c.in_ok-pass_packet.ensures.packet there in
-    let one = subst (λ (p : Pass). PassesOne p h index (left c.loop-index.input) (left c.pass_packet.new.input) (held c.loop-index.output) (held c.pass_packet.new.output) next.0) so_far.pass next.1 in
+    let one = subst (λ (p : Pass). PassesOne p h index (left c.loop-index.input)
+    (left c.pass_packet.new.input) (held c.loop-index.output) (held c.pass_packet.new.output)
+    next.0) so_far.pass next.1 in
     record {
       long = search rules;
       pass = c.pass_packet.ensures.pass ∙ so_far.pass;
       ready = c.in_ok-pass_packet.ensures.ready there;
       came = (
         so_far.came.0 ++ next.0 ∷ [],
-        stands_more pass h [] [] (left c.args.input.now) (left c.loop-index.input) (left c.pass_packet.new.input) (held c.args.output.now) (held c.loop-index.output) (held c.pass_packet.new.output)
+        stands_more pass h [] [] (left c.args.input.now) (left c.loop-index.input)
+            (left c.pass_packet.new.input) (held c.args.output.now) (held c.loop-index.output)
+            (held c.pass_packet.new.output)
             so_far.came.0 index next.0 so_far.came.1 so_far.came.2 one,
         omega (arith, length-append so_far.came.0 (next.0 ∷ []), so_far.came.2),
       );

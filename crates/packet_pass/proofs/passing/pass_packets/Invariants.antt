@@ -10,7 +10,9 @@ invariant-loop-index g l = record {
   pass : l.writer.pass ≡ l.initial.writer.pass;
   ready : HasWritten l.writer l.index;
   came : (packets : List Packet)
-      × Stands l.initial.writer.pass l.header [] [] (g.S.Source.left l.initial.input) (g.S.Source.left l.input) (g.K.Sink.held l.initial.output) (g.K.Sink.held l.output) packets [] []
+      × Stands l.initial.writer.pass l.header [] [] (g.S.Source.left l.initial.input)
+      (g.S.Source.left l.input) (g.K.Sink.held l.initial.output) (g.K.Sink.held l.output)
+      packets [] []
       × (length packets ≡ l.index);
   few : l.index ≤ l.most;
   later : g.S.Source.faults l.initial.input ≤ g.S.Source.faults l.input;

@@ -8,5 +8,6 @@ loop-r-preserved c =
     let m = c.args.rows.now in
     c.in_ok-insert.ensures.ok
     ∙ ap (λ rows. with_entry rows c.loop-r.r (c.args.k + c.loop-r.r)) c.loop-r.invariant
-    ∙ ap (λ k. with_entry (record m { rows = parities_below m c.loop-r.r }) c.loop-r.r (k + c.loop-r.r)) (sym c.requires.k)
+    ∙ ap (λ k. with_entry (record m { rows = parities_below m c.loop-r.r }) c.loop-r.r
+    (k + c.loop-r.r)) (sym c.requires.k)
     ∙ parities_more m c.loop-r.r (rw c.requires.k c.requires.sources) (omega arith)

@@ -9,7 +9,10 @@ use Rattle.peeling.proofs.worklist.peel.Given as goal
 
 abbrev pub invariant-loop-head : goal.invariant-loop-head
 invariant-loop-head g l = record {
-  worked : IsWorked l.code (length l.bytes) (flagged l.fn.known) (flagged l.initial.known) (symbol_at (length l.bytes) (take l.code.n l.initial.symbols)) (λ row. with_all (flagged l.fn.known) (take l.head l.fresh.items)) l.known l.symbols l.rows l.holds;
+  worked : IsWorked l.code (length l.bytes) (flagged l.fn.known) (flagged l.initial.known)
+      (symbol_at (length l.bytes) (take l.code.n l.initial.symbols))
+      (λ row. with_all (flagged l.fn.known) (take l.head l.fresh.items)) l.known l.symbols l.rows
+      l.holds;
   listed : IsListed (flagged l.fn.known) l.fresh.items (flagged l.known);
   some : 0 < length l.fresh.items;
   first : get_or l.fresh.items 0 0 ≡ l.e;
@@ -17,7 +20,8 @@ invariant-loop-head g l = record {
   count : length l.fresh.items + unset_count l.known ≡ unset_count l.fn.known;
   room : vec_capacity l.fresh ≡ vec_capacity l.fn.fresh;
   rises : l.fn.steps ≤ l.steps;
-  steps : l.steps + 2 * entries l.code (flagged l.fn.known) ≡ l.fn.steps + 2 * entries l.code (with_all (flagged l.fn.known) (take l.head l.fresh.items));
+  steps : l.steps + 2 * entries l.code (flagged l.fn.known) ≡ l.fn.steps + 2 * entries l.code
+      (with_all (flagged l.fn.known) (take l.head l.fresh.items));
 }
 
 abbrev pub decreases-loop-head : goal.decreases-loop-head

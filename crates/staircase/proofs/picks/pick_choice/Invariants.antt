@@ -4,7 +4,8 @@ use Rattle.staircase.proofs.FirstDraw.{IsSearching}
 use Rattle.staircase.proofs.picks.pick_choice.Given as goal
 
 abbrev pub invariant-loop-place : goal.invariant-loop-place
-invariant-loop-place l = IsSearching (length l.choices.list) (λ place. lacks l.rows l.c (slice_index l.choices.list place)) l.initial.g l.g
+invariant-loop-place l = IsSearching (length l.choices.list)
+    (λ place. lacks l.rows l.c (slice_index l.choices.list place)) l.initial.g l.g
 
 abbrev pub decreases-loop-place : goal.decreases-loop-place
 decreases-loop-place l = l.g.limit - l.g.used

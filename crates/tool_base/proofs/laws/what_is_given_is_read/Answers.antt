@@ -1,4 +1,5 @@
-use Rattle.tool_base.proofs.Readings.{answers_are_read, codecs_are_read, losses_are_read, numbers_are_read, orders_are_read}
+use Rattle.tool_base.proofs.Readings.{answers_are_read, codecs_are_read, losses_are_read}
+use Rattle.tool_base.proofs.Readings.{numbers_are_read, orders_are_read}
 use Rattle.tool_base.proofs.laws.what_is_given_is_read.Goals as goal
 
 pub returns-clause-numbers : goal.returns-clause-numbers

@@ -13,4 +13,5 @@ returns-in-Some c =
     (rw c.in-Some.is at c.in_ok-matches.ensures) (sym c.values_fit.ensures ∙ c.if-values_fit.false)
 
 pub returns : goal.returns
-returns c = none_given c.args.options.now (drop 1 (map (λ w. w.now) c.args.words.now)) (rw c.in-None.is at c.in_ok-matches.ensures)
+returns c = none_given c.args.options.now (drop 1 (map (λ w. w.now) c.args.words.now))
+    (rw c.in-None.is at c.in_ok-matches.ensures)

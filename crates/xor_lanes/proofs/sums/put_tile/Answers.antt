@@ -5,9 +5,12 @@ use Rattle.xor_lanes.proofs.sums.put_tile.Goals as goal
 pub returns-clause-sum : goal.returns-clause-sum
 returns-clause-sum c = λ j lt.
     let from : ℕ = c.args.own * c.args.stride + c.args.at in
-    ap (λ (ys : List ℕ). get_or ys (from + j) 0) c.store_tile.ensures ∙ tile_in c.args.all.now c.sum_tile-sum.result from 64 c.sum_tile-sum.ensures.long c.requires.own j lt ∙ c.sum_tile-sum.ensures.bytes j lt
+    ap (λ (ys : List ℕ). get_or ys (from + j) 0) c.store_tile.ensures
+    ∙ tile_in c.args.all.now c.sum_tile-sum.result from 64 c.sum_tile-sum.ensures.long
+    c.requires.own j lt ∙ c.sum_tile-sum.ensures.bytes j lt
 
 pub returns-clause-rest : goal.returns-clause-rest
 returns-clause-rest c = λ k out.
     let from : ℕ = c.args.own * c.args.stride + c.args.at in
-    ap (λ (ys : List ℕ). get_or ys k 0) c.store_tile.ensures ∙ tile_out c.args.all.now c.sum_tile-sum.result from 64 c.sum_tile-sum.ensures.long k out
+    ap (λ (ys : List ℕ). get_or ys k 0) c.store_tile.ensures
+    ∙ tile_out c.args.all.now c.sum_tile-sum.result from 64 c.sum_tile-sum.ensures.long k out

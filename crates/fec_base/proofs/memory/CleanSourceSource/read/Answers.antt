@@ -9,7 +9,8 @@ returns-clause-bytes c =
     let at = c.self.inside.at in
     let count = c.min-given.result in
     let items = c.self.inside.bytes.items in
-    let given : c.copy_from_slice.new.self ≡ take count (drop at items) = grind (arith, common_steps) in (
+    let given : c.copy_from_slice.new.self ≡ take count (drop at items) =
+    grind (arith, common_steps) in (
       rw (← c.self.view_is) (give_front items _ _ at count (omega arith) given),
       λ none room.
           let left : length items ≤ at + count = grind (arith, common_steps) in

@@ -5,4 +5,5 @@ pub loop-place-preserved : goal.loop-place-preserved
 loop-place-preserved c =
     let drew = c.draw-other.ensures in
     let swapped = c.swap.ensures in
-    IsShuffledDownTo-more _ _ _ _ _ _ _ _ c.loop-place.invariant c.loop-place-test.true c.loop-place.auto.place drew.state drew.value swapped.after swapped.permutation
+    IsShuffledDownTo-more _ _ _ _ _ _ _ _ c.loop-place.invariant c.loop-place-test.true
+    c.loop-place.auto.place drew.state drew.value swapped.after swapped.permutation

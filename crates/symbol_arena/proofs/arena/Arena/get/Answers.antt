@@ -3,7 +3,10 @@ use Rattle.symbol_arena.proofs.Laid.{symbol_of, place_of}
 use Rattle.symbol_arena.proofs.arena.Arena.get.Goals as goal
 
 pub run-requires : goal.run-requires
-run-requires c = place_of c.self.inside.count c.self.inside.stride c.self.inside.len c.self.inside.block c.args.self.now c.args.s c.self.view_is c.self.invariant.0 c.self.invariant.1 c.requires
+run-requires c = place_of c.self.inside.count c.self.inside.stride c.self.inside.len
+    c.self.inside.block c.args.self.now c.args.s c.self.view_is c.self.invariant.0
+    c.self.invariant.1 c.requires
 
 pub returns : goal.returns
-returns c = c.run.ensures ∙ sym (symbol_of c.self.inside.count c.self.inside.stride c.self.inside.len c.self.inside.block c.args.self.now c.args.s c.self.view_is c.requires)
+returns c = c.run.ensures ∙ sym (symbol_of c.self.inside.count c.self.inside.stride
+    c.self.inside.len c.self.inside.block c.args.self.now c.args.s c.self.view_is c.requires)

@@ -7,4 +7,5 @@ pub returns : goal.returns
 returns c =
     let stride : ℕ = (c.args.len + 31) / 32 * 32 in
     let fits : c.args.len ≤ stride = omega arith in
-    ap (laid_symbols c.args.count stride c.args.len) c.in_ok-block.ensures ∙ zero_symbols c.args.count stride c.args.len fits
+    ap (laid_symbols c.args.count stride c.args.len) c.in_ok-block.ensures
+    ∙ zero_symbols c.args.count stride c.args.len fits

@@ -9,5 +9,6 @@ use Rattle.symbol_arena.proofs.Shown.{memory_laws, Lends-memory}
 
 pub shares : statement
 shares =
-    of_Lends memory.struct memory.the_codes memory.the_heap memory.the_lent (λ m p. memory_laws m.ptr m.written) (copy_shared RawPtr-field RawPtr-copy, tt)
+    of_Lends memory.struct memory.the_codes memory.the_heap memory.the_lent
+    (λ m p. memory_laws m.ptr m.written) (copy_shared RawPtr-field RawPtr-copy, tt)
     (λ M 𝓤 𝓛 m p. Lends-memory 𝓛 memory.the_row.lives m.ptr m.size m.written)
