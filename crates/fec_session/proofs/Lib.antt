@@ -10,7 +10,9 @@ pub mod Bounded
 pub mod Gathered
 pub mod Residues
 pub mod Verdicts
+pub mod Whole
 pub mod Outcomes
 pub mod Pairs
+pub mod NullPairs
 pub mod Sources
 pub mod SmallBlocks

@@ -1,6 +1,7 @@
 -- How a block comes out is one, and depends on what arrived alone.
 use mathlib.Core.Path.{fun_ext}
-use Rattle.std.proofs.Common.{◌≡◌, ◌↔◌, ℕ, ◌<◌, ◌==◌, Bool, true, List, [], get_or, refl, sym, ap, ap₂, ◌∙◌, subst}
+use Rattle.std.proofs.Common.{◌≡◌, ◌↔◌, ℕ, ◌<◌, ◌==◌, Bool, true, List, [], get_or, refl, sym, ap}
+use Rattle.std.proofs.Common.{ap₂, ◌∙◌, subst}
 use Rattle.std.specs.List.{Contains}
 use Rattle.std.proofs.lemmas.List.Elements.{All-from_get_or, Contains-get_or}
 use Rattle.sparse_rows.specs.Matrix.{Matrix}
@@ -78,10 +79,12 @@ module _ (arrivals others : List Arrival) (same : HasSameArrivals arrivals other
       record { codeword = h.codeword; fits = fits_others (symbol_at len word) h.fits }
 
 -- arrivals that are the same are so the other way round
-turned : (arrivals others : List Arrival) → HasSameArrivals arrivals others → HasSameArrivals others arrivals
+turned : (arrivals others : List Arrival) → HasSameArrivals arrivals others
+    → HasSameArrivals others arrivals
 turned arrivals others same a = ((same a).1, (same a).0)
 
-module _ (m : Matrix) (len : ℕ) (arrivals others : List Arrival) (same : HasSameArrivals arrivals others) where
+module _ (m : Matrix) (len : ℕ) (arrivals others : List Arrival)
+    (same : HasSameArrivals arrivals others) where
   positions_same : positions arrivals ≡ positions others
   positions_same = fun_ext (λ c. same_test _ _ (positions_within arrivals others same c)
       (positions_within others arrivals (turned arrivals others same) c))
@@ -92,7 +95,8 @@ module _ (m : Matrix) (len : ℕ) (arrivals others : List Arrival) (same : HasSa
   back : (word : List (List ℕ)) → IsFitting m len others word → IsFitting m len arrivals word
   back = fitting_others others arrivals (turned arrivals others same) m len
 
-  source_others : (source : List (List ℕ)) → IsSource m len arrivals source → IsSource m len others source
+  source_others : (source : List (List ℕ)) → IsSource m len arrivals source
+      → IsSource m len others source
   source_others source one = record {
     word = one.word;
     fits = there one.word one.fits;

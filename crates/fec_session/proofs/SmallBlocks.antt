@@ -1,5 +1,6 @@
 -- The blocks of the receivers that tests make.
-use Rattle.std.proofs.Common.{◌≡◌, ℕ, zero, suc, ◌<◌, List, [], ◌∷◌, length, get_or, refl, sym, ◌∙◌, subst, arith}
+use Rattle.std.proofs.Common.{◌≡◌, ℕ, zero, suc, ◌<◌, List, [], ◌∷◌, length, get_or, refl, sym, ◌∙◌}
+use Rattle.std.proofs.Common.{subst, arith}
 use Rattle.sparse_rows.specs.Matrix.{Matrix}
 use Rattle.peeling.specs.Decoder.{Decoder}
 use Rattle.fec_session.specs.Session.{AreNew}
@@ -22,7 +23,8 @@ pub small_new : (codes : List Matrix) (decoders : List Decoder) → AreSmallCode
     → AreNew codes 1 decoders → AreSmall decoders
 small_new codes decoders small new = record {
   three = new.counted ∙ small.three;
-  each = λ b d lt. subst IsSmallCode (sym (new.empty b d.matrix d (within b lt)).matrix) (small.each b d.matrix lt);
+  each = λ b d lt. subst IsSmallCode (sym (new.empty b d.matrix d (within b lt)).matrix)
+      (small.each b d.matrix lt);
   byte = λ b d lt. (new.empty b d.matrix d (within b lt)).len;
 }
   where

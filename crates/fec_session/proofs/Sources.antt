@@ -1,5 +1,6 @@
 -- The source symbols of a block that was determined.
-use Rattle.std.proofs.Common.{◌≡◌, ℕ, ◌<◌, ◌≤◌, Bool, false, List, [], length, get_or, slice_index, Option, Some, sym, ap, ◌∙◌, subst, arith, zero-add}
+use Rattle.std.proofs.Common.{◌≡◌, ℕ, ◌<◌, ◌≤◌, Bool, false, List, [], length, get_or, slice_index}
+use Rattle.std.proofs.Common.{Option, Some, sym, ap, ◌∙◌, subst, arith, zero-add}
 use Rattle.std.specs.List.{Contains}
 use Rattle.std.specs.List.Sorted.{IsStrictlyIncreasing}
 use Rattle.std.proofs.lemmas.List.{get_or_default}
@@ -24,13 +25,16 @@ source_length d values =
 -- each is the one that is kept, or its column's value
 pub source_at : (d : Decoder) (values : List (List ℕ)) (e : ℕ) → e < d.matrix.k
     → get_or (source_of d values) e [] ≡ completed d (symbol_at d.len values) e
-source_at d values e lt = get_or-map-range_with_len (completed d (symbol_at d.len values)) 0 d.matrix.k e e [] lt (zero-add e)
+source_at d values e lt = get_or-map-range_with_len (completed d (symbol_at d.len values)) 0
+    d.matrix.k e e [] lt (zero-add e)
 
 -- a place in the source of such a block is a source position
 pub within_source : (d : Decoder) (values : List (List ℕ)) (p : Bool) (b : Block) (e : ℕ)
-    → record { source = source_of d values; by_peeling = p } ≡ b → e < length b.source → e < d.matrix.k
+    → record { source = source_of d values; by_peeling = p } ≡ b → e < length b.source
+    → e < d.matrix.k
 within_source d values p b e is lt =
-    subst (λ (n : ℕ). e < n) (sym (ap (λ (x : Block). length x.source) is) ∙ source_length d values) lt
+    subst (λ (n : ℕ). e < n) (sym (ap (λ (x : Block). length x.source) is) ∙ source_length d values)
+    lt
 
 -- what is there
 pub source_symbol : (d : Decoder) (values : List (List ℕ)) (p : Bool) (b : Block) (e : ℕ)
@@ -41,7 +45,8 @@ source_symbol d values p b e is lt = sym (source_at d values e (within_source d 
 
 -- ---- a column that the decoder doesn't know, and its value
 
-module _ (d : Decoder) (columns : List ℕ) (values : List (List ℕ)) (are : AreValues d columns values) where
+module _ (d : Decoder) (columns : List ℕ) (values : List (List ℕ))
+    (are : AreValues d columns values) where
   pub columns_rising : IsStrictlyIncreasing columns
   columns_rising = subst IsStrictlyIncreasing (sym are.columns_are) (unknown_rise d)
 
@@ -54,7 +59,8 @@ module _ (d : Decoder) (columns : List ℕ) (values : List (List ℕ)) (are : Ar
     column_there = subst (λ (cs : List ℕ). Contains cs c) (sym are.columns_are) (
       place d c,
       place_below d c lt unkept,
-      sym (get_or_default (unknown_columns d) (place d c) 0 c (place_below d c lt unkept)) ∙ column_place d c lt unkept,
+      sym (get_or_default (unknown_columns d) (place d c) 0 c (place_below d c lt unkept))
+          ∙ column_place d c lt unkept,
     )
 
     place_inside : place d c < length columns
@@ -70,7 +76,8 @@ module _ (d : Decoder) (columns : List ℕ) (values : List (List ℕ)) (are : Ar
         → (bytes ≡ completed d (symbol_at d.len values) c) × (length bytes ≡ d.len)
     value_completes bytes at =
         let column_is : slice_index columns (place d c) ≡ c =
-        ap (λ (cs : List ℕ). slice_index cs (place d c)) are.columns_are ∙ column_place d c lt unkept in
+        ap (λ (cs : List ℕ). slice_index cs (place d c)) are.columns_are
+        ∙ column_place d c lt unkept in
         let is : bytes ≡ get_or values (place d c) [] = at (place d c) place_inside column_is in (
           is ∙ get_or_default values (place d c) [] (zero_symbol d.len) place_valued
               ∙ sym (completed_open d (symbol_at d.len values) c unkept),
@@ -78,6 +85,7 @@ module _ (d : Decoder) (columns : List ℕ) (values : List (List ℕ)) (are : Ar
         )
 
 -- what a block that elimination solved has
-pub solved_values : (d : Decoder) (o : Option Solved) (solved : Solved) → o ≡ Some solved → HasSymbols d o
+pub solved_values : (d : Decoder) (o : Option Solved) (solved : Solved) → o ≡ Some solved
+    → HasSymbols d o
     → AreValues d solved.columns.items solved.values
 solved_values d o solved is has = subst (HasSymbols d) is has

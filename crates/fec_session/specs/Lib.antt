@@ -9,8 +9,10 @@ pub mod Session
 pub mod SessionVerdict
 pub mod Residue
 pub mod Pairing
+pub mod NullPairing
 pub mod Forced
 pub mod Laws
 pub mod Residual
 pub mod Kept
+pub mod Whole
 pub mod Small

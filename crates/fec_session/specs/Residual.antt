@@ -1,16 +1,12 @@
 -- Inside: what elimination finds of a residue, and equations that are being filled in.
-use Rattle.std.specs.Prelude.{◌≡◌, ℕ, List, map, slice_index}
+use Rattle.std.specs.Prelude.{◌≡◌, ℕ, List}
 use Rattle.peeling.specs.Decoder.{Decoder}
 use Rattle.gauss.specs.Equations.{Equation}
 use Rattle.gauss.specs.Answer.{IsAnswer}
 use Rattle.gauss.specs.declared.answer.Answer.TheVariants as answer
-use Rattle.fec_session.specs.Residue.{residue, unknown_columns}
-use Rattle.fec_session.specs.declared.finish.Residual.{Residual}
-use Rattle.fec_session.specs.declared.finish.Residual.TheVariants as residual
-
--- the columns at some places
-abbrev pub columns_at : Decoder → List ℕ → List ℕ
-columns_at d places = map (slice_index (unknown_columns d)) places
+use Rattle.fec_session.specs.Residue.{columns_at, residue, unknown_columns}
+use Rattle.fec_session.specs.declared.elimination.Residual.{Residual}
+use Rattle.fec_session.specs.declared.elimination.Residual.TheVariants as residual
 
 -- no symbols solve the residue; or these do at the unknown columns, and no others; or some do, and
 -- this is the first null set, as columns

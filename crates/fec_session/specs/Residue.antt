@@ -1,6 +1,6 @@
 -- What peeling leaves to elimination.
 use Rattle.std.specs.Prelude.{ℕ, not, cond, Bool, true, false, List, [], ◌∷◌}
-use Rattle.std.specs.Prelude.{length, map, filter}
+use Rattle.std.specs.Prelude.{length, map, filter, slice_index}
 use Rattle.std.specs.List.{range_with_len}
 use Rattle.fec_base.specs.Symbol.{xor_sum}
 use Rattle.sparse_rows.specs.Closure.{flagged, members, outside}
@@ -14,6 +14,14 @@ unknown_columns d = members d.matrix.n (λ c. not (flagged d.known c))
 -- the place of a column among them: how many of them are below it
 abbrev pub place : Decoder → ℕ → ℕ
 place d c = length (members c (λ b. not (flagged d.known b)))
+
+-- the columns at some places
+abbrev pub columns_at : Decoder → List ℕ → List ℕ
+columns_at d places = map (slice_index (unknown_columns d)) places
+
+-- the places of some columns
+abbrev pub places_of : Decoder → List ℕ → List ℕ
+places_of d columns = map (place d) columns
 
 -- a row as an equation: the places of its unknown columns, and the sum of its known symbols
 abbrev pub equation_of : Decoder → List ℕ → Equation

@@ -1,15 +1,18 @@
 // The decoder of one source block.
 ghost use Rattle.std.specs.Prelude.{◌≡◌, ◌↔◌, ◌<◌, ◌≤◌, ◌+◌, ◌*◌, ℕ, true, [], IsTrue, IsSome};
 ghost use Rattle.std.specs.Prelude.{IfSome, IfOk, IfErr, length, count_by};
+ghost use Rattle.std.specs.List.Sorted.{IsStrictlyIncreasing};
 ghost use Rattle.sparse_rows.specs.Closure.{flagged};
 ghost use Rattle.peeling.specs.Decoder.{kept, IsDecoder};
 ghost use Rattle.peeling.specs.Lookups.{known_entries, HasAllSource, IsEmpty};
 ghost use Rattle.peeling.specs.Stands.{StandsFor, Receives};
 ghost use Rattle.peeling.specs.Outcome.{IsOutcome};
+ghost use Rattle.fec_session.specs.Residue.{residue, unknown_columns};
 ghost use Rattle.fec_session.specs.Verdict.{Decides, Holds};
 
-use crate::finish::{Residual, eliminate};
-use crate::{SourceBlock, Verdict};
+use crate::elimination::{Residual, eliminate};
+use crate::residue::{equations, unknown_columns};
+use crate::{Residue, SourceBlock, Verdict};
 use fec_base::{Ledger, NoMemory, Steps};
 use peeling::{Arrival, Peeler};
 use sparse_rows::Code;
@@ -21,8 +24,8 @@ mod tests;
 
 /// The decoder of one source block. It takes encoding symbols in any order and any number, and
 /// rebuilds by peeling each symbol that is the only unknown one of some row. It has room for the n
-/// symbols of the code, of `len` bytes each, from the start: no call but `new` and `finish` takes
-/// memory.
+/// symbols of the code, of `len` bytes each, from the start: no call but `new`, `residue` and
+/// `finish` takes memory.
 #[derive(Drop)]
 pub struct Core {
     peeler: Peeler,
@@ -133,6 +136,22 @@ impl Core {
         ensures { result ≡ self.now.clashed }
     {
         self.peeler.clashed()
+    }
+
+    /// The equations between the symbols that peeling leaves unknown. Their solutions pair with the
+    /// codewords that fit what arrived, where the core isn't clashed. It takes a bit for each
+    /// unknown column of each row with one, and a symbol for each such row.
+    pub fn residue(&self, alloc: Global) -> Result<Residue, NoMemory>
+        ensures columns { IfOk result (λ r. r.columns.items ≡ unknown_columns self.now) }
+        ensures equations { IfOk result (λ r. r.equations ≡ residue self.now) }
+        ensures rising { IfOk result (λ r. IsStrictlyIncreasing r.columns.items) }
+        ensures few { IfOk result (λ r. length r.columns.items ≤ 65536) }
+    {
+        // The call of `code` tells that there are at most 65,536 columns.
+        prove!(self.code().k() <= self.code().n());
+        let columns = unknown_columns(alloc, self)?;
+        let equations = equations(alloc, self, columns.len() as u32)?;
+        Ok(Residue { columns, equations })
     }
 
     /// What the symbols that arrived determine: peeling first, and then elimination of what it

@@ -2,6 +2,7 @@
 ghost use Rattle.fec_session.specs.Forced.{RebuiltAreForced};
 ghost use Rattle.fec_session.specs.Laws.{ArrivalsDecideOutcome, OutcomeIsOne};
 ghost use Rattle.fec_session.specs.Pairing.{CodewordsPairWithSolutions};
+ghost use Rattle.fec_session.specs.NullPairing.{NullWordsPairWithNullSets, PlacesAreOfColumns};
 
 use null_witness::null_words_follow_the_closure;
 use peeling::kept_symbols_are_forced;
@@ -18,6 +19,14 @@ pub fn rebuilt_symbols_are_forced()
 /// to one with the solutions of the equations that peeling leaves.
 pub fn codewords_pair_with_solutions()
     ensures { CodewordsPairWithSolutions }
+{}
+
+/// Where a decoder stands for its arrivals, the null words of what arrived pair one to one with the
+/// null sets of the equations that peeling leaves: an unknown of these is a column by its place
+/// among the unknown ones, which rise together.
+pub fn null_words_pair_with_null_sets()
+    ensures pairs { NullWordsPairWithNullSets }
+    ensures places { PlacesAreOfColumns }
 {}
 
 /// Arrivals determine one outcome at most: one source, one null word, and whether peeling alone

@@ -7,6 +7,7 @@ ghost use Rattle.peeling.specs.Decoder.{Decoder};
 ghost use Rattle.peeling.specs.Lookups.{HasAllSource, known_entries};
 ghost use Rattle.peeling.specs.Outcome.{IsOutcome};
 ghost use Rattle.fec_session.specs.Session.{AreNew, ComeOut, ReceivesAt, TellsFront, rebuilt};
+ghost use Rattle.fec_session.specs.Whole.{AreWhole, IsWholeFront};
 ghost use Rattle.fec_session.specs.declared.outcome.Outcome.{Outcome};
 
 use crate::outcome::finish_cores;
@@ -28,17 +29,22 @@ mod tests;
 pub struct Receiver<W = Box<dyn Watch>> {
     cores: Vec<Core>,
     watch: W,
+    // How many blocks from the first on know all of their source. A block that does stays so, so
+    // that each is looked at once after it.
+    whole: usize,
 }
 
 impl<W> Model for Receiver<W> {
     ghost use Rattle.std.specs.Prelude.{◌≤◌, length};
     ghost use Rattle.fec_session.specs.Session.{Receiving};
+    ghost use Rattle.fec_session.specs.Whole.{IsWholeFront};
 
     ghost Value = { Receiving W };
 
     ghost view = { λ r. record { cores = r.cores.items; watch = r.watch } };
 
-    ghost invariant = { λ r. length r.cores.items ≤ 4096 };
+    ghost invariant = { λ r. (length r.cores.items ≤ 4096)
+        × IsWholeFront r.cores.items r.whole };
 }
 
 /// How the blocks of a receiver came out, and its watch.
@@ -76,7 +82,14 @@ impl<W: Watch> Receiver<W> {
         ensures err { IfErr result (λ refused. refused.0 ≡ watch) }
     {
         match new_cores(alloc, codes, len) {
-            Ok(cores) => Ok(Receiver { cores, watch }),
+            Ok(cores) => {
+                let whole = whole_front(&cores, 0);
+                Ok(Receiver {
+                    cores,
+                    watch,
+                    whole,
+                })
+            }
             Err(refused) => Err((watch, refused)),
         }
     }
@@ -112,6 +125,7 @@ impl<W: Watch> Receiver<W> {
             ≤ steps.old + 2 * known_entries (slice_index_or self.new.cores sbn d) }
     {
         let arrival = take_in(&mut self.cores[sbn as usize], e, bytes, steps);
+        self.whole = whole_front(&self.cores, self.whole);
         tell_fresh(&self.cores[sbn as usize], sbn, &mut self.watch)?;
         Ok(arrival)
     }
@@ -120,7 +134,7 @@ impl<W: Watch> Receiver<W> {
     pub fn all_source_known(&self) -> bool
         ensures { IsTrue result ↔ All HasAllSource self.now.cores }
     {
-        self.cores.iter().all(|core| core.has_all_source())
+        self.whole == self.cores.as_slice().len()
     }
 
     /// What the symbols that arrived determine of each block: peeling first, and then elimination
@@ -130,7 +144,7 @@ impl<W: Watch> Receiver<W> {
         ensures watch { IfOk result (λ finished. finished.watch ≡ self.watch) }
         ensures err { IfErr result (λ refused. refused.0 ≡ self.watch) }
     {
-        let Receiver { cores, watch } = self;
+        let Receiver { cores, watch, .. } = self;
         match finish_cores(alloc, cores) {
             Ok(outcomes) => Ok(Finished { outcomes, watch }),
             Err(refused) => Err((watch, refused)),
@@ -167,6 +181,19 @@ impl<W: Watch> Finished<W> {
     {
         self.watch
     }
+}
+
+// How many blocks from the first on know all of their source, where the first `from` do.
+fn whole_front(cores: &[Core], from: usize) -> usize
+    requires { AreWhole cores.now from }
+    ensures { IsWholeFront cores.now result }
+{
+    for block in from..cores.len() {
+        if !cores[block].has_all_source() {
+            return block;
+        }
+    }
+    cores.len()
 }
 
 // Decoders of these codes, in order, at which nothing has arrived.

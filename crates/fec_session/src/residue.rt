@@ -15,6 +15,18 @@ use gauss::Equations;
 use std::alloc::Global;
 use xor_lanes::xor_into;
 
+/// What peeling leaves of a block: the rows of the matrix with a column whose symbol isn't known,
+/// as equations between the symbols that are missing.
+#[derive(Drop)]
+pub struct Residue {
+    /// The columns whose symbol isn't known, in rising order. Unknown i is the symbol of column i
+    /// of them.
+    pub columns: Vec<u32>,
+    /// An equation for each row with such a column, in the order of the rows: the row's unknowns,
+    /// and the sum of its known symbols.
+    pub equations: Equations,
+}
+
 // The columns whose symbol isn't known, in rising order.
 pub(crate) fn unknown_columns(alloc: Global, core: &Core) -> Result<Vec<u32>, NoMemory>
     ensures { IfOk result (λ columns. columns.items ≡ unknown_columns core.now) }
@@ -46,7 +58,7 @@ fn places(alloc: Global, core: &Core) -> Result<Vec<u32>, NoMemory>
 }
 
 // The rows with an unknown column, as equations between the unknown symbols.
-pub(crate) fn residue(alloc: Global, core: &Core, unknowns: u32) -> Result<Equations, NoMemory>
+pub(crate) fn equations(alloc: Global, core: &Core, unknowns: u32) -> Result<Equations, NoMemory>
     requires { unknowns ≡ length (unknown_columns core.now) }
     ensures { IfOk result (λ eqs. eqs ≡ residue core.now) }
 {

@@ -2,7 +2,7 @@
 ghost use Rattle.std.specs.Prelude.{◌≡◌, ◌<◌, ◌≤◌, ◌+◌, ◌*◌, [], length, All, IfOk, IfErr, OnOk};
 ghost use Rattle.fec_base.specs.Causes.{HasCause};
 ghost use Rattle.fec_base.specs.Told.{GrowsTold};
-ghost use Rattle.peeling.specs.Lookups.{IsEmpty, known_entries};
+ghost use Rattle.peeling.specs.Lookups.{HasAllSource, IsEmpty, known_entries};
 ghost use Rattle.peeling.specs.Stands.{Receives, StandsFor};
 ghost use Rattle.peeling.specs.Outcome.{IsOutcome};
 ghost use Rattle.fec_session.specs.Kept.{IsKnownPosition};
@@ -171,6 +171,7 @@ pub(crate) fn take_in<L: Ledger>(
     ensures received { Receives core.old core.new e bytes.now }
     ensures fresh { All (IsKnownPosition core.new) core.new.fresh }
     ensures few { length core.new.fresh ≤ 65536 }
+    ensures source { HasAllSource core.old → HasAllSource core.new }
     ensures steps { steps.old ≤ steps.new }
     ensures bound { steps.new + 2 * known_entries core.old
         ≤ steps.old + 2 * known_entries core.new }

@@ -1,8 +1,9 @@
 ghost use Rattle.std.specs.Prelude.{◌≡◌, IfOk};
 
 use crate::fixtures::{check_source, core_with, take, take_all};
-use crate::{Arrival, Core, Verdict};
+use crate::{Arrival, Core, Residue, Verdict};
 use fec_base::NoMemory;
+use gauss::{Answer, solve};
 use std::alloc::Global;
 use std::process::Abort;
 use std::test::Fail;
@@ -31,6 +32,22 @@ fn elimination_gives_what_peeling_leaves(rt: HostRuntime) -> Result<(), Fail> {
     match core.finish(rt.alloc()).map_err(|refused| refused.1)? {
         Verdict::Block(block) => check_source(&rt, &block, false),
         _ => panic!(rt; "not determined"),
+    }
+    Ok(())
+}
+
+#[test]
+fn the_residue_is_solved_by_the_symbols_that_are_missing(rt: HostRuntime) -> Result<(), Fail> {
+    let core = core_with(rt.alloc(), &[(3, 5), (4, 3), (5, 4), (6, 7)])?;
+    let Residue { columns, equations } = core.residue(rt.alloc())?;
+    assert_eq!(rt; columns.as_slice(), [0, 1, 2].as_slice());
+    match solve(rt.alloc(), equations)? {
+        Answer::One(values) => {
+            assert_eq!(rt; values.symbol(0), [1].as_slice());
+            assert_eq!(rt; values.symbol(1), [2].as_slice());
+            assert_eq!(rt; values.symbol(2), [4].as_slice());
+        }
+        _ => panic!(rt; "not one solution"),
     }
     Ok(())
 }

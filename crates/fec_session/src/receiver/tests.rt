@@ -50,6 +50,22 @@ fn each_block_comes_out_by_its_own_symbols(rt: HostRuntime) -> Result<(), Fail> 
     Ok(())
 }
 
+#[test]
+fn source_is_known_once_the_last_block_is_whole(rt: HostRuntime) -> Result<(), Fail> {
+    let watch = ListWatch::new(rt.alloc(), 10, 10)?;
+    let mut receiver = receiver_with(rt.alloc(), watch)?;
+    accept_all(
+        &rt,
+        &mut receiver,
+        &[(0, 0, 1), (0, 1, 2), (0, 2, 3), (0, 3, 4)],
+    );
+    accept_all(&rt, &mut receiver, &[(2, 0, 1), (2, 1, 2), (2, 2, 3)]);
+    assert!(rt; !receiver.all_source_known());
+    accept_all(&rt, &mut receiver, &[(1, 0, 1), (1, 1, 2), (1, 2, 3)]);
+    assert!(rt; receiver.all_source_known());
+    Ok(())
+}
+
 fn receiver_with<W: Watch>(alloc: Global, watch: W) -> Result<Receiver<W>, NoMemory>
     ensures { IfOk result (λ receiver. AreSmall receiver.cores) }
 {

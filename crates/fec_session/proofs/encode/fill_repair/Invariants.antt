@@ -9,5 +9,6 @@ invariant-loop-r g l = record {
   room : vec_capacity l.columns ≡ vec_capacity l.initial.columns;
   count : length l.symbols ≡ length l.initial.symbols;
   word : (len : ℕ) (source : List (List ℕ)) → length source ≡ l.code.k → All (IsSymbol len) source
-      → l.initial.symbols ≡ source ++ replicate (l.code.n - l.code.k) (zero_symbol len) → l.symbols ≡ filled l.code len source l.r;
+      → l.initial.symbols ≡ source ++ replicate (l.code.n - l.code.k) (zero_symbol len)
+      → l.symbols ≡ filled l.code len source l.r;
 }

@@ -8,5 +8,7 @@ pub loop-code-preserved : goal.loop-code-preserved
 loop-code-preserved c =
     let before = c.loop-code.yielded in
     let code = c.in-Some.code in
-    let more = new_more before c.args.len c.loop-code.cores.items code c.in-Ok.core c.loop-code.invariant c.in-Ok.ensures.empty c.in-Ok.ensures.stands in
-    subst (AreNew (before ++ code ∷ []) c.args.len) (sym {A = List Decoder} c.in_ok-push-in-Ok.ensures.items) more
+    let more = new_more before c.args.len c.loop-code.cores.items code c.in-Ok.core
+    c.loop-code.invariant c.in-Ok.ensures.empty c.in-Ok.ensures.stands in
+    subst (AreNew (before ++ code ∷ []) c.args.len)
+    (sym {A = List Decoder} c.in_ok-push-in-Ok.ensures.items) more

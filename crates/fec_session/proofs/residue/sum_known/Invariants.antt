@@ -6,4 +6,5 @@ use Rattle.peeling.specs.Decoder.{kept}
 use Rattle.fec_session.proofs.residue.sum_known.Given as goal
 
 abbrev pub invariant-loop-i : goal.invariant-loop-i
-invariant-loop-i l = l.sum ≡ xor_sum l.core.len (kept l.core) (filter (flagged l.core.known) (take l.i (row_of l.core.matrix l.row)))
+invariant-loop-i l = l.sum ≡ xor_sum l.core.len (kept l.core)
+    (filter (flagged l.core.known) (take l.i (row_of l.core.matrix l.row)))

@@ -9,9 +9,12 @@ pub loop-column-preserved : goal.loop-column-preserved
 loop-column-preserved c =
     let column = c.loop-column.column in
     let known = c.args.core.now.known in
-    let unknown : not (flagged known column) ≡ c.is_none.result = unknown_is c.symbol.result (flagged known column) c.is_none.result c.symbol.ensures.known c.is_none.ensures in
+    let unknown : not (flagged known column) ≡ c.is_none.result = unknown_is c.symbol.result
+    (flagged known column) c.is_none.result c.symbol.ensures.known c.is_none.ensures in
     elim c.if-is_none.branch [
-      | then-is_none+in_ok-push w ↦ ap (λ v. v.items) w.columns-is ∙ w.in_ok-push.ensures.items ∙ ap (λ (xs : List ℕ). xs ++ column ∷ []) c.loop-column.invariant
+      | then-is_none+in_ok-push w ↦ ap (λ v. v.items) w.columns-is ∙ w.in_ok-push.ensures.items
+          ∙ ap (λ (xs : List ℕ). xs ++ column ∷ []) c.loop-column.invariant
           ∙ sym (members_yes (λ b. not (flagged known b)) column (unknown ∙ w.if-is_none.true))
-      | else-is_none w ↦ ap (λ v. v.items) w.columns-is ∙ c.loop-column.invariant ∙ sym (members_no (λ b. not (flagged known b)) column (unknown ∙ w.if-is_none.false))
+      | else-is_none w ↦ ap (λ v. v.items) w.columns-is ∙ c.loop-column.invariant
+          ∙ sym (members_no (λ b. not (flagged known b)) column (unknown ∙ w.if-is_none.false))
     ]

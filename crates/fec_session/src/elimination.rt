@@ -3,8 +3,7 @@ ghost use Rattle.std.specs.Prelude.{◌≡◌, ◌<◌, ℕ, List, All, length, 
 ghost use Rattle.std.specs.List.Sorted.{IsStrictlyIncreasing};
 ghost use Rattle.fec_session.specs.Residual.{IsResidual};
 
-use crate::Core;
-use crate::residue::{residue, unknown_columns};
+use crate::{Core, Residue};
 use fec_base::NoMemory;
 use gauss::{Answer, Values, solve};
 use null_witness::NullWord;
@@ -25,11 +24,8 @@ pub enum Residual {
 pub(crate) fn eliminate(alloc: Global, core: &Core) -> Result<Residual, NoMemory>
     ensures { IfOk result (IsResidual core.now) }
 {
-    // These calls tell that there are at most 65,536 columns.
-    prove!(core.code().k() <= core.code().n());
-    let columns = unknown_columns(alloc, core)?;
-    let eqs = residue(alloc, core, columns.len() as u32)?;
-    match solve(alloc, eqs)? {
+    let Residue { columns, equations } = core.residue(alloc)?;
+    match solve(alloc, equations)? {
         Answer::Clash => Ok(Residual::Clash),
         Answer::One(values) => Ok(Residual::Solved(columns, values)),
         Answer::Free(set) => Ok(Residual::Open(columns_at(alloc, &columns, set.positions())?)),
