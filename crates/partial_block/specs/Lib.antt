@@ -1,0 +1,6 @@
+pub mod Through
+pub mod Saved
+pub mod Surveys
+pub mod Laws
+pub mod Pieces
+pub mod ReadOff
