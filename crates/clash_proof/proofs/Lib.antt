@@ -1,0 +1,10 @@
+pub mod Closed
+pub mod Alternative
+pub mod Refuted
+pub mod Appended
+pub mod Compared
+pub mod Steps
+pub mod Summed
+pub mod Transposing
+pub mod Fitted
+pub mod Found

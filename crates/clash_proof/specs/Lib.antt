@@ -1,0 +1,9 @@
+pub mod Entries
+pub mod Conflicts
+pub mod Evidence
+pub mod RowSets
+pub mod Proofs
+pub mod Laws
+pub mod Limits
+pub mod Transposed
+pub mod RowSums
