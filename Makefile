@@ -41,6 +41,11 @@ build:
 build/eperftool:
 	$(MAKE) build
 
+build/one_block:
+	cd crates/one_block && rt run > /dev/null
+	mkdir -p build
+	cp crates/one_block/out/one_block build/one_block
+
 #   make install PREFIX=..  installs the built program into PREFIX/bin (PREFIX is /usr/local if not given)
 install: build/eperftool
 	install -d $(DESTDIR)$(PREFIX)/bin
@@ -60,7 +65,7 @@ fuzz: build/eperftool
 	@python3 tools/fuzz.py $(CASES) $(SEED)
 
 #   make faults             meets the built program with faults of the system: reads, writes, pipes, files, memory
-faults: build/eperftool
+faults: build/eperftool build/one_block
 	@python3 tools/faults.py
 
 .PHONY: help demo datagrams test promises trusted fuzz faults plots build install bench

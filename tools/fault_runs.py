@@ -12,6 +12,7 @@ from typing import NamedTuple
 
 TOP = pathlib.Path(__file__).resolve().parent.parent
 PROGRAM = str(pathlib.Path(os.environ.get("EPERFTOOL", TOP / "build" / "eperftool")).resolve())
+EXAMPLE = str(TOP / "build" / "one_block")
 # A run that takes longer is killed, and counts as one that hangs.
 SECONDS = 120
 
@@ -20,6 +21,7 @@ class Run(NamedTuple):
     name: str
     words: list
     data: bytes
+    program: str = PROGRAM
 
 
 class Answer(NamedTuple):
@@ -87,7 +89,7 @@ def answer(run, before=(), given=None, output=None, report=None, env=None, parts
     the run's own; what goes there isn't seen, and counts as nothing."""
     with tempfile.TemporaryFile() as held, tempfile.TemporaryFile() as told:
         started = Started(
-            [*before, PROGRAM, *run.words], feed(run.data, parts) if given is None else given,
+            [*before, run.program, *run.words], feed(run.data, parts) if given is None else given,
             held if output is None else output, told if report is None else report, env,
         )
         status = started.status()
@@ -150,6 +152,32 @@ def lost_until(sure, file):
     raise SystemExit(f"No loss of those tried makes a decode report {sure}.")
 
 
+def chosen(file, packets, size):
+    """The packets of these numbers, of so many bytes each, behind the header."""
+    return file[:26] + b"".join(file[26 + size * p : 26 + size * (p + 1)] for p in packets)
+
+
+def worked_runs():
+    """The small worked examples of the pages, with symbols of one byte."""
+    shape, grid = ["--symbol=1", "--block=3", "--max-n=7"], ["--codec=2d", "--width=3", "--block=5", "--symbol=1"]
+    three, five = bytes([1, 2, 4]), bytes([1, 2, 4, 8, 16])
+    file = answer(Run("", ["encode", *shape], three)).output
+    square = answer(Run("", ["encode", *grid], five)).output
+    small = ["perf", "--k=3", "--n=7", "--symbol=1", "--order=sent"]
+    return [
+        Run("encode, three of seven", ["encode", *shape], three),
+        Run("encode, a triangle of seven", ["encode", "--codec=triangle", *shape], three),
+        Run("decode, seven of seven", ["decode"], file),
+        Run("decode, the last four of seven", ["decode"], chosen(file, range(3, 7), 5)),
+        Run("decode, one of seven", ["decode"], chosen(file, [3], 5)),
+        Run("decode, none of seven", ["decode"], file[:26]),
+        Run("encode, a grid of ten", ["encode", *grid], five),
+        Run("decode, six of a grid of ten", ["decode"], chosen(square, [2, 5, 6, 7, 8, 9], 5)),
+        Run("perf, seven of seven", small, b""),
+        Run("perf, four of seven", [*small, "--loss=first:3"], b""),
+    ]
+
+
 def all_runs():
     """The runs that meet with faults. A further command is one line more."""
     chance = random.Random(1)
@@ -187,4 +215,4 @@ def all_runs():
         Run("show", ["show"], file),
         Run("show, too many packets", ["show", "--packets=9"], file),
         Run("perf", ["perf", "--k=200", "--symbol=1", "--loss=even:250", "--runs=6"], b""),
-    ]
+    ] + worked_runs()

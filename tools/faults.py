@@ -11,6 +11,7 @@ prlimit and a C compiler.
 import concurrent.futures
 import fcntl
 import os
+import select
 import shutil
 import signal
 import subprocess
@@ -20,8 +21,8 @@ import threading
 from functools import partial
 from typing import Any, Callable, NamedTuple
 
-from fault_runs import PROGRAM, Answer, Run, Started, all_runs, answer, bytewise, count_requests, feed, pieces, refusal
-from fault_runs import told_lines, traced
+from fault_runs import EXAMPLE, PROGRAM, Answer, Run, Started, all_runs, answer, bytewise, count_requests, feed, pieces
+from fault_runs import refusal, told_lines, traced
 
 MEMORY, READ, WRITE, WATCH = (f"fault: {cause}\n".encode() for cause in ("memory", "read", "write", "watch"))
 
@@ -157,6 +158,11 @@ def readers_gone(runs):
 def broken():
     ours, theirs = os.pipe()
     os.close(ours)
+    # A child that another thread has just forked holds the reading end until it has begun its own program.
+    ends = select.poll()
+    ends.register(theirs, 0)
+    while not any(event & select.POLLERR for _, event in ends.poll(10)):
+        pass
     return theirs
 
 
@@ -325,6 +331,22 @@ def refused_memory(runs):
                 yield Case(run, f"request {first}{words} refused", give, right)
 
 
+def handed_back(_):
+    """Each request for memory of the example of the library is refused in turn. Where that hands its session back, it
+    asks once more, and then prints all that it prints where nothing is refused."""
+    run = Run("the example", [], b"", EXAMPLE)
+    whole, requests = count_requests(lambda env: answer(run, env=env))
+    alone = [partial(answer, run, env=refusal(n, n)) for n in range(1, requests + 1)]
+    for number, give in enumerate(alone, 1):
+        yield Case(run, f"request {number} refused", give, partial(goes_on, whole))
+    yield Case(run, "some refused requests are asked again", lambda: any(give() == whole for give in alone), True)
+
+
+def goes_on(whole, got):
+    """All was printed, or a front of it with a status that isn't 0."""
+    return got == whole or (got.status > 0 and whole.output.startswith(got.output))
+
+
 KINDS = {
     "reads": reads,
     "writes": writes,
@@ -336,6 +358,7 @@ KINDS = {
     "slow": slow_pipes,
     "memory": little_memory,
     "refused": refused_memory,
+    "back": handed_back,
 }
 
 
@@ -353,7 +376,7 @@ def try_kind(name, runs):
             count += 1
             if not is_right:
                 wrong += 1
-                print(f"wrong: {case.run.name} (eperftool {' '.join(case.run.words)}), {name}: {case.fault}")
+                print(f"wrong: {case.run.name} ({os.path.basename(case.run.program)} {' '.join(case.run.words)}), {name}: {case.fault}")
                 if not callable(case.right):
                     print(f"  wanted: {case.right}")
                 print(f"  got:    {got}", flush=True)
@@ -363,7 +386,7 @@ def try_kind(name, runs):
 
 def main():
     names = sys.argv[1:] or list(KINDS)
-    for tool in (PROGRAM, "strace", "prlimit", os.environ.get("CC", "cc")):
+    for tool in (PROGRAM, EXAMPLE, "strace", "prlimit", os.environ.get("CC", "cc")):
         if not shutil.which(tool):
             sys.exit(f"{tool} is wanted, and isn't there.")
     runs = all_runs()

@@ -1,24 +1,43 @@
 #!/usr/bin/env python3
-"""Finds the clause behind each promise of docs/PROMISES.md, and behind each answer of docs/CAUSES.md.
+"""Finds the clause behind each promise of docs/PROMISES.md, and behind each answer of docs/CAUSES.md, and the code of
+docs/LIBRARY.md in the example.
 
-A line of a table ends with functions and, in brackets, clauses of their contracts, or fields of a record of promises. Each
-has to be there, in the crate that the heading above names. With `-v` each is printed with its file and line; a name that
-isn't found is an error.
+A line of a table ends with functions and, in brackets, clauses of their contracts, or fields of a record of promises.
+Each has to be there, in the crates that the heading above names. With `-v` each is printed with its file and line; a
+name that isn't found is an error.
 """
 import pathlib
 import re
 import sys
+from typing import NamedTuple, Optional
 
 TOP = pathlib.Path(__file__).resolve().parent.parent
 PAGES = [TOP / "docs" / "PROMISES.md", TOP / "docs" / "CAUSES.md"]
+LIBRARY, EXAMPLE = TOP / "docs" / "LIBRARY.md", TOP / "crates" / "one_block"
+HEADS = ("|---", "| promise", "| law", "| status", "| words", "| call")
 FUNCTION = re.compile(r"^\s*(?:pub(?:\([a-z]+\))? )?(?:const )?fn (\w+)")
 TYPE = re.compile(r"^(?:impl(?:<[^>]*>)? (?:(\w+)(?:<[^>]*>)? for )?(\w+)|pub (?:struct|enum|trait) (\w+))")
 CLAUSE = re.compile(r"^\s*ensures\*? (\w+) \{")
 FIELD = re.compile(r"^ {2,4}pub (\w+) :")
+NAMED = re.compile(r"`([\w:]+)`(?:`?: )?(?: \(([^)]*)\))?")
+
+
+class Place(NamedTuple):
+    """A function or a record: its type (None where it has none), its name, where it stands, and the lines of its
+    clauses or fields."""
+
+    owner: Optional[str]
+    name: str
+    path: pathlib.Path
+    line: int
+    parts: dict
+
+    def at(self, part=None):
+        return f"{self.path.relative_to(TOP)}:{self.parts[part] if part else self.line}"
 
 
 def functions(crate):
-    """Of each function of a crate its type (or None), file, line, and the lines of its clauses."""
+    """The functions of a crate, with the lines of their clauses."""
     found = []
     for path in sorted((TOP / "crates" / crate / "src").rglob("*.rt")):
         owner, current = None, None
@@ -28,98 +47,114 @@ def functions(crate):
             elif line.startswith("}"):
                 owner = None
             if match := FUNCTION.match(line):
-                current = (owner, match[1], path, number, {})
+                current = Place(owner, match[1], path, number, {})
                 found.append(current)
             elif current and (match := CLAUSE.match(line)):
-                current[4].setdefault(match[1], number)
+                current.parts.setdefault(match[1], number)
     return found
 
 
-def fields(crate):
-    """Of each record of a crate's definitions its file and the lines of its fields."""
+def records(crate):
+    """The records of a crate's definitions by their names, with the lines of their fields."""
     found = {}
     for path in sorted((TOP / "crates" / crate / "specs").glob("*.antt")):
         record = None
         for number, line in enumerate(path.read_text().splitlines(), 1):
             if match := re.match(r"^pub record (\w+)", line):
-                record = found.setdefault(match[1], (path, number, {}))
+                record = found.setdefault(match[1], Place(None, match[1], path, number, {}))
             elif line and not line.startswith((" ", "--")):
                 record = None
             elif record and (match := FIELD.match(line)):
-                record[2].setdefault(match[1], number)
+                record.parts.setdefault(match[1], number)
     return found
 
 
-def check(page, verbose):
-    """How many names of a page were not found, and how many were."""
-    errors, shown = 0, 0
-    crates, owner, record = [], None, None
-    for number, line in enumerate(page.read_text().splitlines(), 1):
-        if line.startswith("### "):
-            crates = re.findall(r"`(\w+)`", line)
-            crates = [name for name in crates if (TOP / "crates" / name).is_dir()]
-            known = [(crate, function) for crate in crates for function in functions(crate)]
-            records = {name: place for crate in crates for name, place in fields(crate).items()}
-            record = None
-        if not crates or not line.startswith("|") or line.startswith(("|---", "| promise", "| law", "| status", "| words", "| call")):
-            continue
-        cell = line.rstrip("|").split("|")[-1].strip()
-        # A record's name, and then fields, alone in later lines.
-        owner = None
-        for part in re.finditer(r"`([\w:]+)`(?:`?: )?(?: \(([^)]*)\))?", cell):
-            name, clauses = part[1], re.findall(r"`(\w+)`", part[2] or "")
-            after = cell[part.end(1) + 1 : part.end(1) + 2]
-            if name in records:
-                record = name
-                path, at, _ = records[name]
-                shown += 1
-                if verbose:
-                    print(f"{path.relative_to(TOP)}:{at}: {name}")
-                continue
-            kind, _, plain = name.rpartition("::")
-            owner = kind or owner
-            match = [f for _, f in known if f[1] == plain and (not kind or f[0] == kind)]
-            if not kind and owner:
-                match = [f for _, f in known if f[1] == plain and f[0] == owner] or match
-            if not match and record and plain in records[record][2]:
-                path, _, lines = records[record]
-                shown += 1
-                if verbose:
-                    print(f"{path.relative_to(TOP)}:{lines[plain]}: {record}.{plain}")
-                continue
-            if not match and cell.startswith("`run`") and name != "run":
-                clauses, match = [name], [f for _, f in known if f[1] == "run"]
-            if not match and (TOP / "crates" / name).is_dir():
-                continue
-            if not match and any(f[0] == plain for _, f in known):
-                owner = plain
-                continue
-            if not match:
-                print(f"docs/{page.name}:{number}: `{name}` isn't in {', '.join(crates)}")
-                errors += 1
-                continue
-            for function in match[:1]:
-                shown += 1
-                if verbose:
-                    print(f"{function[2].relative_to(TOP)}:{function[3]}: {name}")
+class Reader:
+    """Reads a page, and keeps what it found and what it didn't."""
+
+    def __init__(self, page):
+        self.page, self.number = page, 0
+        self.found, self.errors = [], []
+        self.crates, self.functions, self.records = [], [], {}
+        # A record's name may stand alone in a line, and its fields in later ones; a type's before its functions.
+        self.record, self.owner = None, None
+
+    def read(self):
+        for self.number, line in enumerate(self.page.read_text().splitlines(), 1):
+            if line.startswith("### "):
+                self.enter(re.findall(r"`(\w+)`", line))
+            if self.crates and line.startswith("|") and not line.startswith(HEADS):
+                self.look_up(line.rstrip("|").split("|")[-1].strip())
+
+    def enter(self, names):
+        self.crates = [name for name in names if (TOP / "crates" / name).is_dir()]
+        self.functions = [function for crate in self.crates for function in functions(crate)]
+        self.records = {name: record for crate in self.crates for name, record in records(crate).items()}
+        self.record = None
+
+    def look_up(self, cell):
+        self.owner = None
+        for part in NAMED.finditer(cell):
+            self.look_up_name(part[1], re.findall(r"`(\w+)`", part[2] or ""), cell)
+
+    def look_up_name(self, name, clauses, cell):
+        if name in self.records:
+            self.record = self.records[name]
+            self.found.append(f"{self.record.at()}: {name}")
+            return
+        plain, match = name.rpartition("::")[2], self.named(name)
+        if not match and self.record and plain in self.record.parts:
+            self.found.append(f"{self.record.at(plain)}: {self.record.name}.{plain}")
+            return
+        if not match and cell.startswith("`run`") and name != "run":
+            clauses, match = [name], self.named("run")
+        if match:
+            self.found.append(f"{match[0].at()}: {name}")
             for clause in clauses:
-                at = [f for f in match if clause in f[4]]
-                if at:
-                    shown += 1
-                    if verbose:
-                        print(f"{at[0][2].relative_to(TOP)}:{at[0][4][clause]}: {name} ({clause})")
-                elif not any(clause in place[2] for place in records.values()) and not clause.startswith("Is"):
-                    print(f"docs/{page.name}:{number}: `{name}` has no clause `{clause}`")
-                    errors += 1
-    return errors, shown
+                self.look_up_clause(name, clause, match)
+        elif any(function.owner == plain for function in self.functions):
+            self.owner = plain
+        elif not (TOP / "crates" / name).is_dir():
+            self.errors.append(f"docs/{self.page.name}:{self.number}: `{name}` isn't in {', '.join(self.crates)}")
+
+    def named(self, name):
+        """The functions of this name, of the type that stands before it or that was named last."""
+        kind, _, plain = name.rpartition("::")
+        self.owner = kind or self.owner
+        same = [function for function in self.functions if function.name == plain]
+        if kind:
+            return [function for function in same if function.owner == kind]
+        return [function for function in same if self.owner and function.owner == self.owner] or same
+
+    def look_up_clause(self, name, clause, match):
+        has = [function for function in match if clause in function.parts]
+        if has:
+            self.found.append(f"{has[0].at(clause)}: {name} ({clause})")
+        elif not any(clause in record.parts for record in self.records.values()) and not clause.startswith("Is"):
+            self.errors.append(f"docs/{self.page.name}:{self.number}: `{name}` has no clause `{clause}`")
+
+
+def pasted():
+    """Of each piece of code of the page on the library that isn't in the example, its first line."""
+    sources = [path.read_text() for path in sorted((EXAMPLE / "src").rglob("*.rt"))]
+    for code in re.findall(r"```rust\n(.*?)```", LIBRARY.read_text(), re.S):
+        for piece in code.split("\n\n"):
+            if not any(piece.strip("\n") in source for source in sources):
+                yield f"docs/{LIBRARY.name}: not in the example: {piece.strip().splitlines()[0]}"
 
 
 def main():
-    verbose = "-v" in sys.argv[1:]
-    found = [check(page, verbose) for page in PAGES]
-    if verbose:
-        print(f"{sum(shown for _, shown in found)} functions, clauses and fields found")
-    return 1 if any(errors for errors, _ in found) else 0
+    readers = [Reader(page) for page in PAGES]
+    for reader in readers:
+        reader.read()
+    found = [line for reader in readers for line in reader.found]
+    errors = [line for reader in readers for line in reader.errors] + list(pasted())
+    if "-v" in sys.argv[1:]:
+        print("\n".join(found))
+        print(f"{len(found)} functions, clauses and fields found")
+    if errors:
+        print("\n".join(errors))
+    return 1 if errors else 0
 
 
 if __name__ == "__main__":
