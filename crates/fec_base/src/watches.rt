@@ -2,11 +2,12 @@
 ghost use Rattle.std.specs.Prelude.{◌≡◌, ◌<◌, ◌≤◌, ◌-◌, ◌++◌, ◌∷◌, ◌↔◌, ◌⊎◌, [], length, IsTrue};
 ghost use Rattle.std.specs.Prelude.{IsErr, OnOk, OnErr, IfOk, None, Some};
 ghost use Rattle.std.specs.Io.KnownBytes.{Appends};
+ghost use Rattle.fec_base.specs.Bytes.{AppendsFront};
 ghost use Rattle.fec_base.specs.Causes.{HasCause, raised};
 ghost use Rattle.fec_base.specs.Told.{AddsTold};
 ghost use Rattle.fec_base.specs.Watches.{Progress, counted_up, progress_line, progress_text};
 
-use crate::{Failed, NoMemory, Place, Watch, WriteSink, write_all};
+use crate::{Failed, NoMemory, Place, Watch, WriteFailed, WriteSink, write_all};
 use itoa::Buffer;
 use std::alloc::Global;
 use std::io::Write;
@@ -128,8 +129,8 @@ impl Watch for ListWatch {
 
 /// Counts the rebuilt symbols of a whole run, and writes a line at each 1,000th.
 ///
-/// A symbol is counted also where the writing of its line fails. The count stands still at
-/// `u64::MAX`.
+/// A symbol is counted also where the writing of its line fails; of that line the writer then has
+/// a front, and nothing more is written. The count stands still at `u64::MAX`.
 #[derive(Drop)]
 pub struct ProgressWatch<W: Write> {
     sink: WriteSink<W>,
@@ -158,18 +159,33 @@ impl<W: Write> ProgressWatch<W> {
         ensures written { OnOk result
             (Appends (W.contents self.old.inner) (W.contents self.new.inner)
             (progress_line self.old.count)) }
+        ensures cut { OnErr result
+            (AppendsFront (W.contents self.old.inner) (W.contents self.new.inner)
+            (progress_line self.old.count)) }
         ensures count { self.new.count ≡ self.old.count }
         ensures cause { HasCause self.old.faults self.new.faults result }
     {
         let mut digits = Buffer::new();
         let text = digits.format(self.count);
-        if write_all(&mut self.sink, b"rebuilt ").is_err()
-            || write_all(&mut self.sink, text.as_bytes()).is_err()
-            || write_all(&mut self.sink, b"\n").is_err()
-        {
-            return Err(Failed);
-        }
+        self.put(b"rebuilt ")?;
+        self.put(text.as_bytes())?;
+        self.put(b"\n")?;
         Ok(())
+    }
+
+    // Writes a piece of a line.
+    fn put(&mut self, piece: &[u8]) -> Result<(), Failed>
+        ensures written { OnOk result
+            (Appends (W.contents self.old.inner) (W.contents self.new.inner) piece.now) }
+        ensures cut { OnErr result
+            (AppendsFront (W.contents self.old.inner) (W.contents self.new.inner) piece.now) }
+        ensures count { self.new.count ≡ self.old.count }
+        ensures cause { HasCause self.old.faults self.new.faults result }
+    {
+        match write_all(&mut self.sink, piece) {
+            Ok(()) => Ok(()),
+            Err(WriteFailed) => Err(Failed),
+        }
     }
 }
 
@@ -184,6 +200,9 @@ impl<W: Write + Drop> Watch for ProgressWatch<W> {
         ensures count { self.new.count ≡ counted_up self.old.count }
         ensures written { OnOk result
             (Appends (W.contents self.old.inner) (W.contents self.new.inner)
+            (progress_text self.new.count)) }
+        ensures cut { OnErr result
+            (AppendsFront (W.contents self.old.inner) (W.contents self.new.inner)
             (progress_text self.new.count)) }
         ensures cause { HasCause self.old.faults self.new.faults result }
     {

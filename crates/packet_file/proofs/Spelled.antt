@@ -1,14 +1,11 @@
 -- Headers and packets as bytes.
-use Rattle.std.proofs.Common.{◌≡◌, ℕ, ◌+◌, ◌<◌, List, [], ◌∷◌, ◌++◌, length, take, drop}
-use Rattle.std.proofs.Common.{slice_index, codes, sym, ap, ap₂, ◌∙◌, subst, arith, length-append}
-use Rattle.std.proofs.Common.{take-append-drop, length-take-le, length-drop, Option, Result, Ok}
-use Rattle.std.proofs.Common.{Err, IfOk, IfErr, OnErr}
-use Rattle.std.specs.Io.KnownBytes.{Appends}
-use Rattle.std.proofs.KnownBytes.{Appends-trans}
-use Rattle.std.proofs.Math.Seq.{drop-cons, take-append-add, take-append-le}
+use Rattle.std.proofs.Common.{◌≡◌, ℕ, ◌<◌, List, [], ◌∷◌, ◌++◌, length, take, drop}
+use Rattle.std.proofs.Common.{slice_index, codes, sym, ap, ap₂, ◌∙◌, arith}
+use Rattle.std.proofs.Common.{take-append-drop, length-take-le, length-drop, Result, Ok}
+use Rattle.std.proofs.Common.{Err, IfOk, IfErr}
+use Rattle.std.proofs.Math.Seq.{drop-cons}
 use Rattle.std.proofs.lemmas.List.{take_all}
 use Rattle.std.proofs.lemmas.List.Elements.{All-take}
-use Rattle.fec_base.specs.Bytes.{AppendsFront}
 use Rattle.oti_fields.specs.Fields.{codec_number, oti_bytes}
 use Rattle.oti_fields.specs.Laws.{IdIsSpelled}
 use Rattle.oti_fields.specs.declared.codec.Codec.{Codec}
@@ -16,30 +13,6 @@ use Rattle.packet_file.specs.Faults.{AreNotZero, HasHeaderFault}
 use Rattle.packet_file.specs.Header.{HeaderFields, header_bytes}
 use Rattle.packet_file.specs.Laws.{PacketIsSpelled}
 use Rattle.packet_file.specs.declared.fault.FileFault.TheVariants.{BadReserved}
-
--- a failure leaves a front, also of what comes behind
-pub cut_longer : (held now : Option (List ℕ)) (xs ys : List ℕ) → AppendsFront held now xs
-    → AppendsFront held now (xs ++ ys)
-cut_longer held now xs ys cut = (
-  cut.0,
-  omega (arith, length-append xs ys, cut.1),
-  subst (Appends held now) (sym (take-append-le cut.0 xs ys (omega (arith, cut.1)))) cut.2,
-)
-
--- a failure behind a piece leaves a front of both
-pub cut_behind : (held mid now : Option (List ℕ)) (first second : List ℕ) → Appends held mid first
-    → AppendsFront mid now second → AppendsFront held now (first ++ second)
-cut_behind held mid now first second whole cut = (
-  length first + cut.0,
-  omega (arith, length-append first second, cut.1),
-  subst (Appends held now) (sym (take-append-add first second cut.0))
-      (Appends-trans held mid now first (take cut.0 second) whole cut.2),
-)
-
--- a fact that stands however a call ended
-pub on_err : {T E : Type 0} (r : Result T E) (P : Type 0) → P → OnErr r P
-on_err (Ok x) P p = tt
-on_err (Err e) P p = p
 
 -- as many bytes as a packet has spell one, since four bytes spell an identifier
 pub packet_spelled : IdIsSpelled → PacketIsSpelled

@@ -2,10 +2,10 @@ use Rattle.std.proofs.Common.{subst}
 use Rattle.std.specs.Io.KnownBytes.{Appends}
 use Rattle.fec_base.specs.Bytes.{AppendsFront}
 use Rattle.oti_fields.specs.Fields.{id_bytes}
+use Rattle.fec_base.proofs.Cuts.{cut_behind, cut_longer, on_err}
 use Rattle.packet_file.specs.Packets.{packet_bytes}
 use Rattle.std.proofs.KnownBytes.{Appends-trans}
 use Rattle.packet_file.proofs.Limits.{ids_fit}
-use Rattle.packet_file.proofs.Spelled.{cut_behind, cut_longer, on_err}
 use Rattle.packet_file.proofs.packets.write_packet.Goals as goal
 
 pub write_id-requires : goal.write_id-requires
