@@ -4,7 +4,7 @@ ghost use Rattle.std.specs.Prelude.{◌≡◌, ◌≢◌, ◌≤◌, ◌<◌, �
 ghost use Rattle.std.specs.Prelude.{slice_index_or, MatchOption};
 ghost use Rattle.gauss.specs.Packed.{bits_of, width_of};
 ghost use Rattle.gauss.specs.Elimination.{IsCandidate, IsStep, lead_of};
-ghost use Rattle.gauss.specs.Table.{updated, virtual, with_entry};
+ghost use Rattle.gauss.specs.Table.{updated, virtual, with_table_row};
 
 use crate::packed::{add_row, byte_of, flip, has};
 
@@ -89,9 +89,9 @@ fn will_have(
     requires words { r * width + width ≤ length words.now }
     requires table { length table.now ≡ 256 * width }
     ensures yes { result ≡ true → (unknowns ≤ lead)
-        × (with_entry width group words.now table.now r unknown ≡ true) }
+        × (with_table_row width group words.now table.now r unknown ≡ true) }
     ensures no { result ≡ false → unknowns ≤ lead
-        → with_entry width group words.now table.now r unknown ≡ false }
+        → with_table_row width group words.now table.now r unknown ≡ false }
 {
     if (lead as usize) < unknowns {
         return false;
@@ -167,7 +167,7 @@ fn apply_row(
     ensures led { lead < unknowns
         → (c : ℕ) → bits_of width words.new r c ≡ bits_of width words.old r c }
     ensures row { unknowns ≤ lead → (c : ℕ)
-        → bits_of width words.new r c ≡ with_entry width group words.old table.now r c }
+        → bits_of width words.new r c ≡ with_table_row width group words.old table.now r c }
     ensures others { (j q : ℕ) → j ≢ r → q < width
         → slice_index_or words.new (j * width + q) 0 ≡ slice_index_or words.old (j * width + q) 0 }
 {
