@@ -18,7 +18,7 @@ use Rattle.null_witness.proofs.ReducedWords.{least_below}
 use Rattle.clash_proof.specs.Conflicts.{Differs, IsConflict, IsFirstEntry}
 use Rattle.clash_proof.specs.Entries.{Entry, entry_at, no_entry}
 use Rattle.clash_proof.specs.Evidence.{Kept, StandsFor}
-use Rattle.clash_proof.specs.Limits.{IsKept}
+use Rattle.clash_proof.specs.Limits.{IsEvidenceKept}
 
 -- what differs comes later
 earlier : (entries : List Entry) (i j : ℕ) → Differs entries i j → i < j
@@ -164,7 +164,7 @@ module _ (entries : List Entry) (e : Entry) where
 
   module _ (ev : Kept) (stands : StandsFor ev entries) where
     -- the first entry of its position
-    pub took_first : IsKept ev → e.position < ev.n → flagged ev.arrived e.position ≡ false
+    pub took_first : IsEvidenceKept ev → e.position < ev.n → flagged ev.arrived e.position ≡ false
         → (symbols : List (List ℕ)) → symbols ≡ set ev.symbols e.position e.bytes
         → StandsFor (record {
           n = ev.n;

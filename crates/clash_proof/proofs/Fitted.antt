@@ -18,7 +18,7 @@ use Rattle.sparse_rows.proofs.Sets.{any_from, true_or_false}
 use Rattle.clash_proof.specs.Conflicts.{Differs, IsConflict}
 use Rattle.clash_proof.specs.Entries.{Entry, HasFitting, arrivals_of, entry_at, no_entry}
 use Rattle.clash_proof.specs.Evidence.{Kept, StandsFor}
-use Rattle.clash_proof.specs.Limits.{IsKept}
+use Rattle.clash_proof.specs.Limits.{IsEvidenceKept}
 use Rattle.clash_proof.specs.Proofs.{ContradictedBy, IsClosedBy}
 use Rattle.clash_proof.specs.Transposed.{NoneOf}
 use Rattle.clash_proof.proofs.Appended.{first_of}
@@ -58,7 +58,8 @@ conflict_fits_none m len entries pair h (word, fitting) = h.differ.bytes
     ∙ ap (symbol_at len word) h.differ.position
     ∙ fits_entry entries (symbol_at len word) fitting.fits h.second h.differ.inside)
 
-module _ (m : Matrix) (shape : HasShape m) (ev : Kept) (kept : IsKept ev) (same_n : m.n ≡ ev.n)
+module _ (m : Matrix) (shape : HasShape m) (ev : Kept) (kept : IsEvidenceKept ev)
+    (same_n : m.n ≡ ev.n)
     (entries : List Entry) (stands : StandsFor ev entries) (none : ev.conflict ≡ None) where
   came : (c : ℕ) → positions (arrivals_of entries) c ≡ flagged ev.arrived c
   came c = any_arrival entries c ∙ sym (stands.arrived c)

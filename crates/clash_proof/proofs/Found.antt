@@ -10,7 +10,7 @@ use Rattle.sparse_rows.specs.Matrix.{Matrix, HasShape}
 use Rattle.sparse_rows.specs.NullWord.{last_of}
 use Rattle.null_witness.specs.ReducedWords.{IsFirstReducedWord, IsReducedWord}
 use Rattle.clash_proof.specs.Evidence.{Kept}
-use Rattle.clash_proof.specs.Limits.{IsKept}
+use Rattle.clash_proof.specs.Limits.{IsEvidenceKept}
 use Rattle.clash_proof.specs.Proofs.{ContradictedBy, IsClosedBy}
 use Rattle.clash_proof.specs.RowSums.{set_byte}
 use Rattle.clash_proof.specs.Transposed.{AreReducedWords, NoneOf}
@@ -57,7 +57,7 @@ module _ (m : Matrix) (ev : Kept) (sets : List (List ℕ))
       none j.0 j.1 (subst (ContradictedBy m ev) (sym j.2) kind)
 
   -- what the sum of set i tells
-  module _ (shape : HasShape m) (kept : IsKept ev) (i : ℕ) (lt : i < length sets)
+  module _ (shape : HasShape m) (kept : IsEvidenceKept ev) (i : ℕ) (lt : i < length sets)
       (sum : List ℕ) (bytes : (t : ℕ) → get_or sum t 0 ≡ set_byte m ev t (at i)) where
     pub not_zero : sum ≢ zero_symbol (length sum) → ContradictedBy m ev (at i)
     not_zero ne zero = let one = (words.reduced i [] lt).one in

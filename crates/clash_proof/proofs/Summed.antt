@@ -14,14 +14,14 @@ use Rattle.sparse_rows.proofs.Planes.{byte_laws, plane_zero, symbol_at_is, zero_
 use Rattle.gauss.specs.Elimination.{product}
 use Rattle.gauss.proofs.Lists.{list_product, product_of_same}
 use Rattle.clash_proof.specs.Evidence.{Kept}
-use Rattle.clash_proof.specs.Limits.{IsKept}
+use Rattle.clash_proof.specs.Limits.{IsEvidenceKept}
 use Rattle.clash_proof.specs.Proofs.{ContradictedBy}
 use Rattle.clash_proof.specs.RowSets.{odd_columns}
 use Rattle.clash_proof.specs.RowSums.{kept_byte, row_byte, rows_byte, set_byte}
 use Rattle.clash_proof.proofs.Refuted.{row_total, rows_total}
 
 -- what evidence keeps is an assignment
-pub kept_is : (ev : Kept) → IsKept ev → IsAssignment ev.len (symbol_at ev.len ev.symbols)
+pub kept_is : (ev : Kept) → IsEvidenceKept ev → IsAssignment ev.len (symbol_at ev.len ev.symbols)
 kept_is ev kept = symbol_at_is ev.len ev.symbols kept.are_symbols
 
 -- the sum of some rows is that of the members of their set
@@ -30,7 +30,7 @@ pub rows_set : (m : Matrix) (ev : Kept) (rows : List ℕ) → IsStrictlyIncreasi
 rows_set m ev rows rising below t =
     list_product 0 bit_xor byte_laws (length m.rows) rows rising below (row_byte m ev t)
 
-module _ (m : Matrix) (shape : HasShape m) (ev : Kept) (kept : IsKept ev) (rows : List ℕ)
+module _ (m : Matrix) (shape : HasShape m) (ev : Kept) (kept : IsEvidenceKept ev) (rows : List ℕ)
     (rising : IsStrictlyIncreasing rows) (below : All (λ r. r < length m.rows) rows) where
   sum_bytes : (t : ℕ) → total 0 bit_xor (kept_byte ev t) (members m.n (odd_columns m rows))
       ≡ rows_byte m ev t rows

@@ -4,7 +4,7 @@ use Rattle.fec_base.specs.Symbol.{IsSymbol}
 use Rattle.clash_proof.specs.Evidence.{Kept}
 
 -- flags, indices and symbols for n positions, within the limits of a block
-pub record IsKept (ev : Kept) : Type 0 where
+pub record IsEvidenceKept (ev : Kept) : Type 0 where
   pub some : 1 ≤ ev.n
   pub most : ev.n ≤ 65536
   pub some_bytes : 1 ≤ ev.len

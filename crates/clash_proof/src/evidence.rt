@@ -4,7 +4,7 @@ ghost use Rattle.sparse_rows.specs.Closure.{flagged};
 ghost use Rattle.sparse_rows.specs.Codeword.{symbol_at};
 ghost use Rattle.clash_proof.specs.Entries.{Entry};
 ghost use Rattle.clash_proof.specs.Evidence.{StandsFor};
-ghost use Rattle.clash_proof.specs.Limits.{IsKept};
+ghost use Rattle.clash_proof.specs.Limits.{IsEvidenceKept};
 
 use fec_base::NoMemory;
 use std::alloc::Global;
@@ -26,7 +26,7 @@ pub struct Evidence {
 
 impl Model for Evidence {
     ghost use Rattle.clash_proof.specs.Evidence.{Kept};
-    ghost use Rattle.clash_proof.specs.Limits.{IsKept};
+    ghost use Rattle.clash_proof.specs.Limits.{IsEvidenceKept};
 
     ghost Value = { Kept };
 
@@ -39,7 +39,7 @@ impl Model for Evidence {
       conflict = e.conflict;
     } };
 
-    ghost invariant = { λ e. IsKept (record {
+    ghost invariant = { λ e. IsEvidenceKept (record {
       n = e.n;
       len = e.len;
       arrived = e.arrived.items;
@@ -101,7 +101,7 @@ impl Evidence {
     // The number of positions.
     pub(crate) fn n(&self) -> u32
         ensures value { result ≡ self.now.n }
-        ensures kept { IsKept self.now }
+        ensures kept { IsEvidenceKept self.now }
     {
         self.n
     }
@@ -109,7 +109,7 @@ impl Evidence {
     // The length of a symbol.
     pub(crate) fn symbol_len(&self) -> u32
         ensures value { result ≡ self.now.len }
-        ensures kept { IsKept self.now }
+        ensures kept { IsEvidenceKept self.now }
     {
         self.len
     }
@@ -118,7 +118,7 @@ impl Evidence {
     pub(crate) fn has_arrived(&self, position: u32) -> bool
         requires { position < self.now.n }
         ensures value { result ≡ flagged self.now.arrived position }
-        ensures kept { IsKept self.now }
+        ensures kept { IsEvidenceKept self.now }
     {
         self.arrived[position as usize]
     }

@@ -4,7 +4,7 @@ ghost use Rattle.std.specs.Prelude.{IfOk};
 ghost use Rattle.gauss.specs.Reduction.{set_at};
 ghost use Rattle.null_witness.specs.ReducedWords.{IsFirstReducedWord};
 ghost use Rattle.sparse_rows.specs.Matrix.{HasShape};
-ghost use Rattle.clash_proof.specs.Limits.{IsKept};
+ghost use Rattle.clash_proof.specs.Limits.{IsEvidenceKept};
 ghost use Rattle.clash_proof.specs.Proofs.{ContradictedBy, Finds, IsClosedBy};
 ghost use Rattle.clash_proof.specs.RowSums.{AreRowSums, set_byte};
 ghost use Rattle.clash_proof.specs.Transposed.{AreReducedWords, NoneOf};
@@ -64,7 +64,7 @@ fn first_refuting(
     sum: &mut [u8],
 ) -> Result<Option<RowSet>, NoMemory>
     requires shape { HasShape code.now }
-    requires kept { IsKept ev.now }
+    requires kept { IsEvidenceKept ev.now }
     requires sets { AreReducedWords (IsClosedBy code.now ev.now) sets.now.sets }
     requires unknowns { length sets.now.symbols ≡ length code.now.rows }
     requires sums { AreRowSums code.now ev.now sums.now }

@@ -30,7 +30,7 @@ running_of s = record {
 
 -- the codeword is that of the trial's source block, and the generator stands behind the runs that
 -- were made
-pub record IsReady (r : Running) (state : ℕ) : Type 0 where
+pub record IsReadyToRun (r : Running) (state : ℕ) : Type 0 where
   pub some : 1 ≤ r.trial.len
   pub most : r.trial.len ≤ 65535
   pub is_loss : IsLoss r.trial.loss

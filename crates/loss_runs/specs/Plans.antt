@@ -1,5 +1,5 @@
 -- The ranges of a plan.
-use Rattle.std.specs.Prelude.{◌≤◌, if◌then◌else◌}
+use Rattle.std.specs.Prelude.{◌≤◌}
 use Rattle.loss_patterns.specs.Ranges.{IsLoss}
 use Rattle.loss_runs.specs.declared.plan.RunPlan.{RunPlan}
 

@@ -1,6 +1,5 @@
 -- What stands in a sink of the text of a trial.
-use Rattle.std.specs.Prelude.{◌≡◌, ℕ, List, ◌++◌, length, Option}
-use Rattle.std.specs.Io.KnownBytes.{Appends}
+use Rattle.std.specs.Prelude.{◌≡◌, ℕ, List, length}
 use Rattle.loss_runs.specs.Trials.{Trial}
 use Rattle.loss_runs.specs.Ends.{AreRuns}
 use Rattle.loss_runs.specs.Lines.{trial_text}

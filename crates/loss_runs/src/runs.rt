@@ -34,13 +34,13 @@ pub struct LossRuns {
 
 impl Model for LossRuns {
     ghost use Rattle.loss_runs.specs.Running.{Running};
-    ghost use Rattle.loss_runs.specs.Kept.{IsReady, running_of};
+    ghost use Rattle.loss_runs.specs.Kept.{IsReadyToRun, running_of};
 
     ghost Value = { Running };
 
     ghost view = { running_of };
 
-    ghost invariant = { λ s. IsReady (running_of s) s.generator };
+    ghost invariant = { λ s. IsReadyToRun (running_of s) s.generator };
 }
 
 impl LossRuns {

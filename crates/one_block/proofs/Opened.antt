@@ -1,5 +1,5 @@
 -- Sessions of the block, their arrivals and their verdicts.
-use Rattle.std.proofs.Common.{◌≡◌, ◌<◌, ◌+◌, ℕ, List, [], ◌∷◌, ◌++◌, length, take, map, sym, ap}
+use Rattle.std.proofs.Common.{◌≡◌, ◌<◌, ◌+◌, ℕ, List, [], ◌∷◌, ◌++◌, length, take, sym, ap}
 use Rattle.std.proofs.Common.{◌∙◌, subst, get_or, append_assoc}
 use Rattle.std.proofs.lemmas.List.{map-append, take_more}
 use Rattle.sparse_rows.specs.Codeword.{Arrival}
@@ -10,7 +10,7 @@ use Rattle.fec_session.specs.Session.{Watched}
 use Rattle.fec_session.specs.SessionVerdict.{Decides, HandsBack, outcome_of}
 use Rattle.fec_session.specs.declared.session.SessionVerdict.{SessionVerdict}
 use Rattle.fec_session.specs.declared.session.SessionVerdict.TheVariants as verdict
-use Rattle.one_block.specs.Block.{IsBlockCode, IsOfBlock, IsOpen, IsVerdict, Holds, HasSource}
+use Rattle.one_block.specs.Block.{IsBlockCode, IsOfBlock, IsOpen, IsVerdict, Holds, TellsSource}
 use Rattle.one_block.specs.Block.{arrival_of, arrivals_of}
 use Rattle.one_block.specs.declared.sender.Packet.{Packet}
 
@@ -58,7 +58,7 @@ verdict_is s v decides back arrivals o = record {
 
 -- a block that was determined has K source symbols
 pub has_source : {W : Type 0} (arrivals : List Arrival) (v : SessionVerdict W)
-    → IsVerdict arrivals v → HasSource v
+    → IsVerdict arrivals v → TellsSource v
 has_source arrivals (verdict.NoCodeword session) is = tt
 has_source arrivals (verdict.Block block watch) is = is.holds
 has_source arrivals (verdict.Undetermined session word) is = tt

@@ -1,5 +1,5 @@
 -- Inside: what the sender and the receiver of the block promise.
-use Rattle.std.specs.Prelude.{◌≡◌, ◌<◌, ◌*◌, ℕ, Some, ⊤, List, length, map}
+use Rattle.std.specs.Prelude.{◌≡◌, ◌<◌, ℕ, Some, ⊤, List, length, map}
 use Rattle.std.specs.List.{range_with_len}
 use Rattle.fec_base.specs.Symbol.{symbols_of}
 use Rattle.sparse_rows.specs.Matrix.{Matrix}
@@ -24,7 +24,7 @@ pub record IsBlockCode (m : Matrix) : Type 0 where
 
 -- the packets that are sent: their bytes are the codeword of the source, and their identifiers
 -- count up from 0
-pub record AreSent (source : List ℕ) (packets : List Packet) : Type 0 where
+pub record AreItsPackets (source : List ℕ) (packets : List Packet) : Type 0 where
   pub matrix : Matrix
   pub code : IsBlockCode matrix
   pub bytes : IsEncoded matrix LEN (symbols_of LEN K source) (map (λ p. p.bytes.items) packets)
@@ -67,7 +67,7 @@ pub record IsVerdict {W : Type 0} (arrivals : List Arrival) (v : SessionVerdict 
   pub holds : Holds arrivals v
 
 -- a block that was determined has K source symbols
-abbrev pub HasSource : {W : Type 0} → SessionVerdict W → Type 0
-HasSource (verdict.NoCodeword session) = ⊤
-HasSource (verdict.Block block watch) = length block.source ≡ K
-HasSource (verdict.Undetermined session word) = ⊤
+abbrev pub TellsSource : {W : Type 0} → SessionVerdict W → Type 0
+TellsSource (verdict.NoCodeword session) = ⊤
+TellsSource (verdict.Block block watch) = length block.source ≡ K
+TellsSource (verdict.Undetermined session word) = ⊤

@@ -17,7 +17,7 @@ pub const N: u32 = 7;
 /// How many bytes a symbol has, from 1 to 65,535.
 pub const LEN: u32 = 1;
 
-/// How many rows a source symbol is spread over, from 3 to 10.
+/// N1, from 3 to 10: a source symbol takes min(N1, n - k) turns at being put into a row.
 pub const N1: u32 = 3;
 
 /// The seed of the matrix, from 1 to 2,147,483,646.

@@ -1,7 +1,7 @@
 // The sender of one source block.
 ghost use Rattle.std.specs.Prelude.{◌≡◌, ◌*◌, length, map, IfOk};
 ghost use Rattle.std.specs.List.{range_with_len};
-ghost use Rattle.one_block.specs.Block.{AreSent};
+ghost use Rattle.one_block.specs.Block.{AreItsPackets};
 
 use crate::block::{K, LEN, N, block_code};
 use crate::fault::Fault;
@@ -18,7 +18,7 @@ pub struct Packet {
 /// The N packets of a source block: `source` holds its K symbols of LEN bytes one after the other.
 pub fn send(alloc: Global, source: &[u8]) -> Result<Vec<Packet>, Fault>
     requires { length source.now ≡ K * LEN }
-    ensures { IfOk result (λ packets. AreSent source.now packets.items) }
+    ensures { IfOk result (λ packets. AreItsPackets source.now packets.items) }
 {
     let code = block_code(alloc)?;
     let word = encode_block(alloc, &code, source, LEN)?;

@@ -1,7 +1,7 @@
 // What the example shows.
 ghost use Rattle.std.specs.Prelude.{◌≡◌, List, length};
 ghost use Rattle.sparse_rows.specs.Codeword.{Arrival};
-ghost use Rattle.one_block.specs.Block.{HasSource, IsOpen};
+ghost use Rattle.one_block.specs.Block.{TellsSource, IsOpen};
 
 use crate::block::K;
 use crate::fault::Fault;
@@ -108,7 +108,7 @@ fn show_verdict<S: Sink, T: Sink + Drop>(
     out: &mut S,
     verdict: SessionVerdict<CountWatch<T>>,
 ) -> Result<(), Fault>
-    requires { HasSource verdict }
+    requires { TellsSource verdict }
 {
     match verdict {
         SessionVerdict::Block(block, watch) => show_source(out, &block, watch.count),

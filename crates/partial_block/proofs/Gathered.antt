@@ -8,7 +8,8 @@ use Rattle.gauss.specs.Reduction.{ReducedForm, set_at}
 use Rattle.fec_session.specs.Residue.{columns_at, place, unknown_columns}
 use Rattle.partial_block.specs.Saved.{saved_at, through_at}
 use Rattle.partial_block.specs.Pieces.{bytes_of, saved_of, word_of}
-use Rattle.partial_block.specs.ReadOff.{AreBytes, ArePieces, AreWords, IsOpenBy, IsPiece, IsReadOff}
+use Rattle.partial_block.specs.ReadOff.{AreBytes, ArePieces, AreNullWords, IsOpenBy}
+use Rattle.partial_block.specs.ReadOff.{IsPieceOf, IsReadOff}
 use Rattle.partial_block.specs.declared.saved.Piece.{Piece}
 use Rattle.partial_block.specs.declared.saved.Piece.TheVariants as piece
 
@@ -26,7 +27,7 @@ some_columns d r e i by none = true≢false (sym by.1.holds
 
 module _ (d : Decoder) (r : ReducedForm) (columns : List ℕ) (pieces : List Piece)
     (words : List (List ℕ)) (same : columns ≡ unknown_columns d) (are : ArePieces d r pieces)
-    (made : AreWords columns r pieces words) where
+    (made : AreNullWords columns r pieces words) where
   module _ (e : ℕ) (lt : e < d.matrix.k) where
     abbrev own : Piece
     own = get_or pieces e (piece.Open 0)
@@ -40,13 +41,13 @@ module _ (d : Decoder) (r : ReducedForm) (columns : List ℕ) (pieces : List Pie
         (e, inside, get_or_default pieces e (piece.Open i) (piece.Open 0) inside ∙ is)
         ∙ ap (λ (cs : List ℕ). map (slice_index cs) (set_at r i)) same
 
-    bytes_case : (q : Piece) → own ≡ q → IsPiece d r e q → word_of words q ≡ []
+    bytes_case : (q : Piece) → own ≡ q → IsPieceOf d r e q → word_of words q ≡ []
         → AreBytes d r e (bytes_of q)
     bytes_case (piece.Determined bytes) is given none = given
     bytes_case (piece.Open i) is given none =
         absurd (some_columns d r e i given (sym (word_is i is given) ∙ none))
 
-    word_case : (q : Piece) → own ≡ q → IsPiece d r e q → word_of words q ≢ []
+    word_case : (q : Piece) → own ≡ q → IsPieceOf d r e q → word_of words q ≢ []
         → (i : ℕ) × IsOpenBy d r e i × (word_of words q ≡ columns_at d (set_at r i))
     word_case (piece.Determined bytes) is given some = absurd (some refl)
     word_case (piece.Open i) is given some = (i, given, word_is i is given)

@@ -24,17 +24,17 @@ abbrev pub IsOpenBy : Decoder → ReducedForm → ℕ → ℕ → Type 0
 IsOpenBy d r e i = (flagged d.known e ≡ false) × IsFirstWith r (place d e) i
 
 -- what is read off of source symbol e
-abbrev pub IsPiece : Decoder → ReducedForm → ℕ → Piece → Type 0
-IsPiece d r e (piece.Determined bytes) = AreBytes d r e bytes.items
-IsPiece d r e (piece.Open number) = IsOpenBy d r e number
+abbrev pub IsPieceOf : Decoder → ReducedForm → ℕ → Piece → Type 0
+IsPieceOf d r e (piece.Determined bytes) = AreBytes d r e bytes.items
+IsPieceOf d r e (piece.Open number) = IsOpenBy d r e number
 
 -- and of all of them
 pub record ArePieces (d : Decoder) (r : ReducedForm) (pieces : List Piece) : Type 0 where
   pub count : length pieces ≡ d.matrix.k
-  pub each : (e : ℕ) (x : Piece) → e < d.matrix.k → IsPiece d r e (slice_index_or pieces e x)
+  pub each : (e : ℕ) (x : Piece) → e < d.matrix.k → IsPieceOf d r e (slice_index_or pieces e x)
 
 -- for each null set that some piece is open by, the columns at its places
-pub record AreWords (columns : List ℕ) (r : ReducedForm) (pieces : List Piece)
+pub record AreNullWords (columns : List ℕ) (r : ReducedForm) (pieces : List Piece)
     (words : List (List ℕ)) : Type 0 where
   pub count : length words ≡ length r.sets
   pub each : (i : ℕ) → i < length r.sets → Contains pieces (piece.Open i)

@@ -5,7 +5,7 @@ ghost use Rattle.std.specs.List.Sorted.{IsStrictlyIncreasing};
 ghost use Rattle.sparse_rows.specs.Closure.{flagged};
 ghost use Rattle.gauss.specs.Reduction.{IsReducedForm, set_at};
 ghost use Rattle.fec_session.specs.Residue.{residue, unknown_columns};
-ghost use Rattle.partial_block.specs.ReadOff.{ArePieces, AreWords, IsPiece, IsReadOff};
+ghost use Rattle.partial_block.specs.ReadOff.{ArePieces, AreNullWords, IsPieceOf, IsReadOff};
 ghost use Rattle.partial_block.specs.Pieces.{HasNumberBelow};
 ghost use Rattle.partial_block.specs.declared.saved.Piece.TheVariants as piece;
 
@@ -68,7 +68,7 @@ fn piece(
     requires rising { IsStrictlyIncreasing columns.now }
     requires form { IsReducedForm (residue core.now) reduced.now }
     requires source { e < core.now.matrix.k }
-    ensures { IfOk result (IsPiece core.now reduced.now e) }
+    ensures { IfOk result (IsPieceOf core.now reduced.now e) }
 {
     // The call of `code` tells that the source symbols are positions of the code.
     prove!(core.code().k() <= core.code().n());
@@ -112,7 +112,7 @@ fn words(
     requires rising { IsStrictlyIncreasing columns.now }
     requires inside { All (All (λ place. place < length columns.now)) reduced.now.sets }
     requires numbers { All (HasNumberBelow (length reduced.now.sets)) pieces.now }
-    ensures { IfOk result (λ words. AreWords columns.now reduced.now pieces.now words.items) }
+    ensures { IfOk result (λ words. AreNullWords columns.now reduced.now pieces.now words.items) }
 {
     let mut used = vec![in alloc; false; reduced.sets() as usize]?;
     mark_used(pieces, &mut used);

@@ -1,6 +1,6 @@
 -- Inside: what clap finds, in the words of items, and the options of the rows of the code.
 use Rattle.std.specs.Prelude.{◌≡◌, Bool, not, List, [], Option, Some, MatchOption, true, is_some}
-use Rattle.std.specs.Prelude.{if◌then◌else◌, codes}
+use Rattle.std.specs.Prelude.{codes}
 use Rattle.std.specs.List.{list_all}
 use Rattle.clap.specs.Words.{first_value, found_of}
 use Rattle.clap.specs.declared.parser.matches.ArgMatches.{ArgMatches}
@@ -45,8 +45,8 @@ abbrev pub ranged : RangeRow → RangeOption
 ranged row = record { name = row.name.now; low = row.low; high = row.high }
 
 -- the option of a row of numbers with a default
-abbrev pub numbered : NumberRow → NumberOption
-numbered row = record { range = ranged row.range; default = row.default }
+abbrev pub numbered_option : NumberRow → NumberOption
+numbered_option row = record { range = ranged row.range; default = row.default }
 
 -- whether the word is `--`
 abbrev pub is_dashes : Text → Bool

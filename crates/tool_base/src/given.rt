@@ -3,7 +3,7 @@ ghost use Rattle.std.specs.Prelude.{◌≡◌, ◌≤◌, ◌∷◌, [], IfSome}
 ghost use Rattle.parity_2d.specs.Grid.{size_2d};
 ghost use Rattle.oti_fields.specs.declared.codec.Codec.TheVariants.{Parity2d};
 ghost use Rattle.loss_patterns.specs.Ranges.{IsLoss};
-ghost use Rattle.tool_base.specs.Reading.{given_of, listed, numbered, ranged};
+ghost use Rattle.tool_base.specs.Reading.{given_of, listed, numbered_option, ranged};
 ghost use Rattle.tool_base.specs.Ranges.{IsShapeInRange};
 ghost use Rattle.tool_base.specs.Given.{codec_given, gives_any, gives_excluded, is_grid, is_random};
 ghost use Rattle.tool_base.specs.Given.{is_yes, loss_given, number_given, number_or, shape_of};
@@ -33,7 +33,7 @@ pub fn number_given(given: &ArgMatches, option: &RangeRow) -> Option<u32>
 pub fn number_or(given: &ArgMatches, option: &NumberRow) -> u32
     requires low { option.now.range.low ≤ option.now.default }
     requires high { option.now.default ≤ option.now.range.high }
-    ensures value { result ≡ number_or (numbered option.now) (given_of given.now) }
+    ensures value { result ≡ number_or (numbered_option option.now) (given_of given.now) }
     ensures low { option.now.range.low ≤ result }
     ensures high { result ≤ option.now.range.high }
 {

@@ -6,7 +6,7 @@ ghost use Rattle.std.specs.Option.{option_map_or};
 ghost use Rattle.tool_base.specs.Reading.{is_dashes};
 ghost use Rattle.tool_base.specs.Options.{codec_of, codec_word, is_value, options_given};
 ghost use Rattle.tool_base.specs.Options.{takes_number, takes_range};
-ghost use Rattle.tool_base.specs.Reading.{Matches, given_of, listed, numbered, ranged};
+ghost use Rattle.tool_base.specs.Reading.{Matches, given_of, listed, numbered_option, ranged};
 
 use clap::error::ErrorKind;
 use clap::{Arg, ArgAction, ArgMatches, Command};
@@ -110,7 +110,7 @@ pub struct NumberRow {
 impl NumberRow {
     // The row of a table that takes the numbers of the range.
     pub fn row(&self) -> OptionRow
-        ensures { listed result ≡ takes_number (numbered self.now) }
+        ensures { listed result ≡ takes_number (numbered_option self.now) }
     {
         self.range.row()
     }
