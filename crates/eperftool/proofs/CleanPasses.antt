@@ -1,15 +1,15 @@
 -- What a `lose` or a `show` comes to where nothing outside fails.
 use Rattle.std.proofs.Common.{◌≡◌, ◌≢◌, ◌⊎◌, inl, inr, ⊎_elim, ℕ, List, [], ◌++◌, length, Option}
 use Rattle.std.proofs.Common.{Some, refl, sym, ap, ap₂, ◌∙◌, subst, append_assoc, append-nil}
-use Rattle.std.specs.Io.KnownBytes.{Appends, Consumes, IsAtEnd}
+use Rattle.std.specs.Io.KnownBytes.{Appends, Consumes}
 use Rattle.packet_file.specs.Header.{HeaderFields, IsHeader, header_bytes}
 use Rattle.packet_file.specs.Laws.{HeaderIsOne, PacketIsOne}
 use Rattle.packet_file.specs.Packets.{Packet, spelled}
-use Rattle.packet_file.specs.Reading.{FailsAtHeader, TakesFewer}
+use Rattle.packet_file.specs.Reading.{FailsAtHeader}
 use Rattle.packet_file.specs.declared.fault.FileFault.{FileFault}
 use Rattle.packet_file.specs.declared.fault.FileFault.TheVariants.{ReadFault}
-use Rattle.packet_pass.specs.Pass.{CutsHead, EndsAtInput, EndsAtOutput, EndsWhole, LacksHeader}
-use Rattle.packet_pass.specs.Pass.{PassEnds, head_of, loss_in, seed_in, texts}
+use Rattle.packet_pass.specs.Pass.{EndsAtInput, LacksHeader}
+use Rattle.packet_pass.specs.Pass.{head_of, loss_in, seed_in, texts}
 use Rattle.packet_pass.specs.Thinned.{kept_of}
 use Rattle.packet_pass.specs.declared.kind.Pass.{Pass}
 use Rattle.packet_pass.specs.declared.kind.Passed.{Passed}

@@ -13,12 +13,12 @@ use Rattle.packet_file.specs.Header.{total_symbols}
 use Rattle.packet_file.specs.Packets.{block_symbols}
 use Rattle.eperftool.specs.Codes.{count_at}
 use Rattle.eperftool.specs.File.{block_start}
-use Rattle.eperftool.specs.Made.{AreWords, IsReady, block_source}
+use Rattle.eperftool.specs.Made.{AreCodewords, IsReadyToWrite, block_source}
 use Rattle.eperftool.proofs.SourceBlocks.{part_symbols}
 
 -- the word that was encoded from a part of the bytes, by a matrix of the size of a block
 module _ (h : HeaderFields) (matrices : List Matrix) (bytes : List ℕ)
-    (ready : IsReady h matrices bytes) (b : ℕ) (inside : b < length (source_counts h))
+    (ready : IsReadyToWrite h matrices bytes) (b : ℕ) (inside : b < length (source_counts h))
     (m : Matrix) (len k start : ℕ) (among : Contains matrices m) (len_is : len ≡ h.oti.symbol)
     (size : k ≡ m.k) (k_is : m.k ≡ count_at h b) (start_is : start ≡ block_start h b)
     (word : List (List ℕ))
@@ -38,7 +38,7 @@ module _ (h : HeaderFields) (matrices : List Matrix) (bytes : List ℕ)
       (subst (λ (source : List (List ℕ)). IsEncoded m len source word) source_is encoded)
 
   -- is the block's codeword
-  pub word_is : IsCode m → (words : List (List (List ℕ))) → AreWords h matrices bytes words
+  pub word_is : IsCode m → (words : List (List (List ℕ))) → AreCodewords h matrices bytes words
       → word ≡ get_or words b []
   word_is code words are =
       let within : b < length words = omega (arith, inside, are.counted) in
@@ -70,7 +70,8 @@ same_sums f g a b (x ∷ xs) (y ∷ ys) long same =
 
 -- the words have as many symbols as the blocks
 pub words_total : (h : HeaderFields) (matrices : List Matrix) (bytes : List ℕ)
-    → IsReady h matrices bytes → (words : List (List (List ℕ))) → AreWords h matrices bytes words
+    → IsReadyToWrite h matrices bytes → (words : List (List (List ℕ)))
+    → AreCodewords h matrices bytes words
     → total_symbols h ≡ sum_by length words
 words_total h matrices bytes ready words are = sum-map (symbol_count h) (source_counts h)
     ∙ sym (same_sums length (symbol_count h) [] 0 words (source_counts h) are.counted (λ b lt.

@@ -29,8 +29,8 @@ use Rattle.packet_file.specs.Packets.{Packet, spelled}
 use Rattle.fec_session.specs.Determines.{Determines}
 use Rattle.eperftool.specs.Received.{arrivals_of}
 use Rattle.eperftool.specs.Told.{HasCodes, IsWhole}
-use Rattle.eperftool.specs.RoundTrip.{AreAmong, AreSent, ComeOutBy, ComesOut, EachBlock, GiveBack}
-use Rattle.eperftool.specs.RoundTrip.{IsByPeeling, IsRight, LackNullWords, LacksNullWord}
+use Rattle.eperftool.specs.RoundTrip.{AreAmong, AreSent, BlockComesOut, ComeOutBy, EachBlock}
+use Rattle.eperftool.specs.RoundTrip.{GiveBack, IsByPeeling, IsRight, LackNullWords, LacksNullWord}
 use Rattle.eperftool.proofs.DrawLimits.{matrix_one}
 use Rattle.eperftool.proofs.OneOutcome.{not_both}
 use Rattle.eperftool.proofs.SentPackets.{IsOfWords, has_each, of_words, packet_at, word_of}
@@ -180,28 +180,28 @@ module _ (header_one : HeaderIsOne) (packet_one : PacketIsOne) (h : HeaderFields
     })
 
     -- a block comes out by the matrix that it was encoded by
-    by_own : (o : Outcome) → ComesOut h limit came b o
+    by_own : (o : Outcome) → BlockComesOut h limit came b o
         → Determines block.matrix h.oti.symbol (arrivals_of b came) o
     by_own o out = subst (λ (m : Matrix). Determines m h.oti.symbol (arrivals_of b came) o)
         (matrix_one h draws limit (count_at h b) block.matrix out.matrix block.code out.code)
         out.determined
 
     -- it is right
-    pub comes_right : (o : Outcome) → ComesOut h limit came b o
+    pub comes_right : (o : Outcome) → BlockComesOut h limit came b o
         → IsRight (source_block h object b) o
     comes_right o out = right_by block.matrix h.oti.symbol (arrivals_of b came)
         (word_of are_sent.encoding.words b) (source_block h object b) (fits block.matrix refl)
         block.encoded.source_is o (by_own o out)
 
     -- without a null word it has its source
-    comes_whole : (o : Outcome) → ComesOut h limit came b o
+    comes_whole : (o : Outcome) → BlockComesOut h limit came b o
         → LacksNullWord block.matrix (positions (arrivals_of b came))
         → HasBlock (source_block h object b) o
     comes_whole o out lacks = closed_one block.matrix h.oti.symbol (arrivals_of b came)
         (source_block h object b) o (comes_right o out) (by_own o out) lacks
 
     -- and where it has its source there is no null word
-    comes_open : (o : Outcome) → ComesOut h limit came b o → UndeterminedByNullWord
+    comes_open : (o : Outcome) → BlockComesOut h limit came b o → UndeterminedByNullWord
         → HasBlock (source_block h object b) o
         → LacksNullWord block.matrix (positions (arrivals_of b came))
     comes_open o out law has word null =
@@ -214,7 +214,7 @@ module _ (header_one : HeaderIsOne) (packet_one : PacketIsOne) (h : HeaderFields
 
     -- where the closure of what came holds its source, it has it by peeling
     pub comes_peeled : ClosureHasSameNullWords → NullWordHoldsSource → (o : Outcome)
-        → ComesOut h limit came b o → HoldsSource block.matrix (arrivals_of b came)
+        → BlockComesOut h limit came b o → HoldsSource block.matrix (arrivals_of b came)
         → IsByPeeling (source_block h object b) o
     comes_peeled same source o out holds =
         let lacks = closed_by_source same source block.matrix (arrivals_of b came) block.shape

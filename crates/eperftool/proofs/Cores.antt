@@ -14,7 +14,7 @@ use Rattle.packet_file.specs.Header.{HeaderFields, source_counts}
 use Rattle.eperftool.specs.BuiltCodes.{AreBlockCodes}
 use Rattle.eperftool.specs.Received.{arrivals_of}
 use Rattle.packet_file.specs.Packets.{Packet}
-use Rattle.eperftool.specs.Receiving.{AreCores, StandForAll, TakesPacket, code_of}
+use Rattle.eperftool.specs.Receiving.{AreCores, StandForAll, TakesPacket, matrix_at}
 use Rattle.eperftool.specs.Told.{HasCodes, IsWhole}
 use Rattle.eperftool.proofs.Arrivals.{stand_after}
 
@@ -32,7 +32,7 @@ blank = record {
 
 -- the matrix of block b is that of its decoder
 pub code_of_is : (decoders : List Decoder) (b : ℕ) (d : Decoder) → b < length decoders
-    → (slice_index_or decoders b d).matrix ≡ code_of decoders b
+    → (slice_index_or decoders b d).matrix ≡ matrix_at decoders b
 code_of_is [] b d lt = absurd (omega (arith, lt))
 code_of_is (x ∷ decoders) zero d lt = refl
 code_of_is (x ∷ decoders) (suc b) d lt = code_of_is decoders b d (omega arith)
@@ -41,16 +41,16 @@ code_of_is (x ∷ decoders) (suc b) d lt = code_of_is decoders b d (omega arith)
 module _ (h : HeaderFields) (draws : Option ℕ) (matrices : List Matrix) (decoders : List Decoder)
     (codes : AreBlockCodes h draws matrices) (new : AreNew matrices h.oti.symbol decoders) where
   code_at : (b : ℕ) (m : Matrix) (d : Decoder) → b < length matrices
-      → slice_index_or matrices b m ≡ code_of decoders b
+      → slice_index_or matrices b m ≡ matrix_at decoders b
   code_at b m d lt = sym (new.empty b m d lt).matrix
       ∙ code_of_is decoders b d (omega (arith, lt, new.counted))
 
-  pub new_codes : HasCodes h draws (code_of decoders)
+  pub new_codes : HasCodes h draws (matrix_at decoders)
   new_codes b lt =
       let within : b < length matrices = omega (arith, lt, codes.counted) in
       codes.built b blank.matrix within ∙ ap Some (code_at b blank.matrix blank within)
 
-  pub new_cores : AreCores h (code_of decoders) [] decoders
+  pub new_cores : AreCores h (matrix_at decoders) [] decoders
   new_cores = record {
     counted = new.counted ∙ codes.counted;
     matrix = λ b d lt. code_of_is decoders b d lt;

@@ -1,17 +1,14 @@
 -- What the packets determine of the blocks.
-use Rattle.std.proofs.Common.{◌↔◌, ℕ, ◌<◌, Bool, List, length, slice_index_or, Option, refl, sym}
+use Rattle.std.proofs.Common.{ℕ, ◌<◌, Bool, List, length, slice_index_or, Option, refl}
 use Rattle.std.proofs.Common.{ap, ◌∙◌, subst, arith}
 use Rattle.fec_base.specs.Told.{Telling}
 use Rattle.sparse_rows.specs.Matrix.{Matrix}
 use Rattle.sparse_rows.specs.Codeword.{Arrival}
 use Rattle.peeling.specs.Decoder.{Decoder}
-use Rattle.peeling.specs.Lookups.{HasAllSource}
 use Rattle.peeling.specs.Stands.{StandsFor}
 use Rattle.fec_session.specs.Session.{ComeOut}
 use Rattle.fec_session.specs.declared.outcome.Outcome.{Outcome}
-use Rattle.fec_session.specs.declared.outcome.Outcome.TheVariants as outcome
 use Rattle.packet_file.specs.Header.{HeaderFields}
-use Rattle.sparse_rows.specs.Determined.{HoldsSource}
 use Rattle.fec_session.specs.Determines.{Determines}
 use Rattle.eperftool.specs.Received.{arrivals_of}
 use Rattle.eperftool.specs.DecodeRun.{Decodes}

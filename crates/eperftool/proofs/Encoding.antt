@@ -18,7 +18,7 @@ use Rattle.eperftool.specs.BuiltCodes.{AreCodes}
 use Rattle.eperftool.specs.Codes.{count_at, header_matrix}
 use Rattle.eperftool.specs.File.{AreEncoded, IsEncodedBlock, block_start, encode_report, packets}
 use Rattle.eperftool.specs.File.{padded, source_block, IsEncoding}
-use Rattle.eperftool.specs.Made.{AreWords, IsMade, IsReady, block_source}
+use Rattle.eperftool.specs.Made.{AreCodewords, IsMade, IsReadyToWrite, block_source}
 use Rattle.eperftool.specs.Options.{header_for}
 use Rattle.eperftool.specs.EncodeRun.{ReadsObject}
 use Rattle.eperftool.specs.declared.encode.Made.{Made}
@@ -52,7 +52,7 @@ module _ (h : HeaderFields) (header : IsHeader h) (draws : Option ℕ) (object :
     (bytes : List ℕ) (bytes_are : bytes ≡ padded (div_ceil (length object) h.oti.symbol *
     h.oti.symbol) object) where
   -- the padded object has all source symbols
-  pub ready : IsReady h matrices bytes
+  pub ready : IsReadyToWrite h matrices bytes
   ready = record {
     long = ap length bytes_are ∙ padded_long (div_ceil (length object) h.oti.symbol * h.oti.symbol)
         object (ceil_room (length object) h.oti.symbol
@@ -144,7 +144,7 @@ module _ (h : HeaderFields) (header : IsHeader h) (draws : Option ℕ) (object :
             (div_ceil (length object) h.oti.symbol) l))) bytes_are
 
     -- the words of all blocks
-    pub words : (ws : List (List (List ℕ))) × AreWords h matrices bytes ws
+    pub words : (ws : List (List (List ℕ))) × AreCodewords h matrices bytes ws
         × AreEncoded h draws object ws
     words =
         let all = chosen [] IsWord (length (source_counts h)) word in
@@ -166,21 +166,21 @@ module _ (o : EncodeOptions) (left left_now : Option (List ℕ)) (object : List 
   h = header_for o (length object)
 
   -- what was made of an object is ready
-  pub made_ready : IsReady made.header made.codes.items made.object.items
-  made_ready = subst (λ (x : HeaderFields). IsReady x made.codes.items made.object.items)
+  pub made_ready : IsReadyToWrite made.header made.codes.items made.object.items
+  made_ready = subst (λ (x : HeaderFields). IsReadyToWrite x made.codes.items made.object.items)
       (sym is.header) (ready h reads.header o.shape.draws object refl made.codes.items is.codes
       made.object.items is.padded_is)
 
   -- and its words make the packet file
   pub made_file : All (λ byte. byte < 256) made.object.items → (ws : List (List (List ℕ)))
-      × AreWords made.header made.codes.items made.object.items ws
+      × AreCodewords made.header made.codes.items made.object.items ws
       × IsEncoding (header_for o (length object)) o.shape.draws object (header_bytes made.header
       ++ packets ws) (encode_report (length ws) (sum_by length ws))
   made_file small =
       let all = words h reads.header o.shape.draws object refl made.codes.items is.codes
       made.object.items is.padded_is small in (
         all.0,
-        subst (λ (x : HeaderFields). AreWords x made.codes.items made.object.items all.0)
+        subst (λ (x : HeaderFields). AreCodewords x made.codes.items made.object.items all.0)
             (sym is.header) all.1,
         record {
           header = reads.header;

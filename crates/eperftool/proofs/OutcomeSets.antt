@@ -18,7 +18,7 @@ use Rattle.packet_file.specs.Packets.{Packet}
 use Rattle.eperftool.specs.Codes.{count_at}
 use Rattle.fec_session.specs.Determines.{Determines}
 use Rattle.eperftool.specs.Received.{arrivals_of}
-use Rattle.eperftool.specs.RoundTrip.{AreAmong, ComeOutBy, ComesOut}
+use Rattle.eperftool.specs.RoundTrip.{AreAmong, ComeOutBy, BlockComesOut}
 use Rattle.eperftool.proofs.DrawLimits.{matrix_one}
 use Rattle.eperftool.proofs.OneOutcome.{outcome_one}
 
@@ -115,9 +115,9 @@ pub outcomes_by_set : (h : HeaderFields) (draws limit : Option ℕ) (packets oth
     → ComeOutBy h limit others second → outcomes ≡ second
 outcomes_by_set h draws limit packets others outcomes second there back out out_too =
     ext_get_or outcome.NoCodeword outcomes second (out.counted ∙ sym out_too.counted) (λ b lt.
-    let mine : ComesOut h draws packets b (get_or outcomes b outcome.NoCodeword) =
+    let mine : BlockComesOut h draws packets b (get_or outcomes b outcome.NoCodeword) =
     out.each b outcome.NoCodeword lt in
-    let its : ComesOut h limit others b (get_or second b outcome.NoCodeword) =
+    let its : BlockComesOut h limit others b (get_or second b outcome.NoCodeword) =
     out_too.each b outcome.NoCodeword (omega (arith, lt, out.counted, out_too.counted)) in
     let same : its.matrix ≡ mine.matrix = matrix_one h draws limit (count_at h b) mine.matrix
     its.matrix mine.code its.code in

@@ -6,8 +6,9 @@ use Rattle.std.proofs.Common.{take-append-drop}
 use Rattle.std.specs.List.{enumerate_from, flat_map}
 use Rattle.std.proofs.lemmas.List.{take_more, length-take-le}
 use Rattle.fec_base.specs.Bytes.{AppendsFront}
+use Rattle.fec_base.proofs.Cuts.{cut_longer}
 use Rattle.eperftool.specs.Staged.{PassesOn}
-use Rattle.eperftool.proofs.Passing.{passes_after, cut_after, cut_longer}
+use Rattle.eperftool.proofs.Passing.{passes_after, cut_after}
 
 module _ {X : Type 0} (piece : ℕ → X → List ℕ) where
   -- the pieces of the items, which are numbered from some number on

@@ -1,23 +1,20 @@
 -- What a run over a packet file does, by how its pass ended.
-use Rattle.std.proofs.Common.{◌≡◌, ◌≢◌, ◌⊎◌, ℕ, List, [], ◌++◌, Option, inl, inr, refl, sym, ap}
+use Rattle.std.proofs.Common.{◌≡◌, ◌≢◌, ◌⊎◌, ℕ, inl, inr, refl, sym, ap}
 use Rattle.std.proofs.Common.{◌∙◌, subst, ⊎_elim}
 use Rattle.std.specs.Prelude.{codes}
 use Rattle.std.specs.Io.KnownBytes.{Appends}
 use Rattle.fec_base.specs.Bytes.{AppendsFront}
 use Rattle.fec_base.specs.Causes.{Rose}
-use Rattle.packet_file.specs.Reading.{FailsAtHeader, TakesFewer}
 use Rattle.packet_file.specs.declared.fault.FileFault.{FileFault}
 use Rattle.packet_file.specs.declared.fault.FileFault.TheVariants.{ReadFault}
-use Rattle.packet_pass.specs.Pass.{CutsHead, EndsAtInput, EndsAtOutput, EndsWhole, LacksHeader}
-use Rattle.packet_pass.specs.Pass.{PassEnds}
 use Rattle.packet_pass.specs.declared.kind.Pass.{Pass}
 use Rattle.packet_pass.specs.declared.kind.Passed.{Passed}
 use Rattle.packet_pass.specs.declared.kind.PassRefusal.{PassRefusal}
 use Rattle.packet_pass.specs.declared.kind.PassRefusal.TheVariants as early
 use Rattle.tool_base.specs.declared.status.Status.{Status}
 use Rattle.tool_base.specs.declared.status.Status.TheVariants as status
-use Rattle.eperftool.specs.Outside.{Stream, Streams}
-use Rattle.eperftool.specs.PassRun.{CutsReport, EndsPass, IsPassRun, IsPassed, RefusesPass}
+use Rattle.eperftool.specs.Outside.{Streams}
+use Rattle.eperftool.specs.PassRun.{EndsPass, IsPassRun, IsPassed, RefusesPass}
 use Rattle.eperftool.specs.PassRun.{pass_report}
 use Rattle.eperftool.specs.Refusals.{IsRefused, refusal_status, refusal_text}
 use Rattle.eperftool.specs.Written.{IsTold, TakesSome}

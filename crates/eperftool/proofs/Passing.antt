@@ -1,10 +1,9 @@
 -- Bytes that pass through a staging buffer, one piece after the other.
-use Rattle.std.proofs.Common.{◌≡◌, ℕ, ◌+◌, ◌<◌, List, [], ◌++◌, length, take, sym, ap, ◌∙◌, subst}
-use Rattle.std.proofs.Common.{arith, append_assoc, append-nil, length-append, Option, Result, Ok}
-use Rattle.std.proofs.Common.{Err, OnErr}
+use Rattle.std.proofs.Common.{◌≡◌, ℕ, ◌+◌, List, [], ◌++◌, length, take, sym, ap, ◌∙◌, subst}
+use Rattle.std.proofs.Common.{arith, append_assoc, append-nil, length-append, Option}
 use Rattle.std.specs.Io.KnownBytes.{Appends}
 use Rattle.std.proofs.KnownBytes.{Appends-trans}
-use Rattle.std.proofs.Math.Seq.{take-append-add, take-append-le}
+use Rattle.std.proofs.Math.Seq.{take-append-add}
 use Rattle.fec_base.specs.Bytes.{AppendsFront}
 use Rattle.eperftool.specs.Staged.{PassesOn}
 
@@ -24,19 +23,6 @@ passes_after held mid now before between after first second p q = record {
       ∙ sym (append_assoc p.sent between second) ∙ ap (λ l. l ++ second) p.rest
       ∙ append_assoc before first second;
 }
-
--- a front of a front
-front_longer : (xs ys : List ℕ) (n : ℕ) → n < length xs → take n (xs ++ ys) ≡ take n xs
-front_longer xs ys n lt = take-append-le n xs ys (omega arith)
-
--- a failure leaves a front, also of what comes behind
-pub cut_longer : (held now : Option (List ℕ)) (xs ys : List ℕ) → AppendsFront held now xs
-    → AppendsFront held now (xs ++ ys)
-cut_longer held now xs ys cut = (
-  cut.0,
-  omega (arith, length-append xs ys, cut.1),
-  subst (Appends held now) (sym (front_longer xs ys cut.0 cut.1)) cut.2,
-)
 
 -- a failure after a piece has passed leaves a front of both
 pub cut_after : (held mid now : Option (List ℕ)) (before between first second : List ℕ)
@@ -77,11 +63,6 @@ seven_parts a b c d e f g l1 l2 l3 l4 l5 l6 l7 h1 h2 h3 h4 h5 h6 h7 =
     h7 ∙ ap (λ l. l ++ g) (h6 ∙ ap (λ l. l ++ f)
     (h5 ∙ ap (λ l. l ++ e) (h4 ∙ ap (λ l. l ++ d)
     (h3 ∙ ap (λ l. l ++ c) (h2 ∙ ap (λ l. l ++ b) h1)))))
-
--- a fact that stands however a call ended
-pub on_err : {T E : Type 0} (r : Result T E) (P : Type 0) → P → OnErr r P
-on_err (Ok x) P p = tt
-on_err (Err e) P p = p
 
 -- a file of a header and packets, where nothing waited: its front after a failure, and the whole
 module _ (held mid late : Option (List ℕ)) (before seen header between after rest : List ℕ)

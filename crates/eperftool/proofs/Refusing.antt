@@ -1,5 +1,5 @@
 -- What refuses a packet file.
-use Rattle.std.proofs.Common.{◌≢◌, ℕ, ◌≤◌, Bool, List, Option, inl, inr, arith}
+use Rattle.std.proofs.Common.{ℕ, ◌≤◌, Bool, List, Option, inl, inr, arith}
 use Rattle.sparse_rows.specs.Matrix.{Matrix}
 use Rattle.packet_file.specs.Header.{HeaderFields}
 use Rattle.packet_file.specs.Taking.{TakesAtMost}

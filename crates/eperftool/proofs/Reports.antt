@@ -1,43 +1,11 @@
 -- Texts that are appended to a report, one after the other.
 use Rattle.std.proofs.Common.{◌≡◌, ℕ, ◌+◌, ◌<◌, List, ◌++◌, length, get_or, take, drop, sym, ap}
-use Rattle.std.proofs.Common.{◌∙◌, subst, arith, append_assoc, length-append, Option}
+use Rattle.std.proofs.Common.{◌∙◌, subst, append_assoc, Option}
 use Rattle.std.specs.Io.KnownBytes.{Appends}
 use Rattle.std.proofs.KnownBytes.{Appends-trans}
-use Rattle.std.proofs.Math.Seq.{take-append-add}
 use Rattle.fec_base.specs.Bytes.{AppendsFront}
+use Rattle.fec_base.proofs.Cuts.{cut_behind, cut_longer}
 use Rattle.eperftool.proofs.Enumerated.{lines_from, lines_front, lines_more}
-use Rattle.eperftool.proofs.Passing.{cut_longer}
-
--- a text, and then a front of another
-pub cut_behind : (held mid now : Option (List ℕ)) (first second : List ℕ) → Appends held mid first
-    → AppendsFront mid now second → AppendsFront held now (first ++ second)
-cut_behind held mid now first second p cut = (
-  length first + cut.0,
-  omega (arith, length-append first second, cut.1),
-  subst (Appends held now) (sym (take-append-add first second cut.0))
-      (Appends-trans held mid now first (take cut.0 second) p cut.2),
-)
-
--- a text, and then a front of another, before a third
-pub cut_between : (held mid now : Option (List ℕ)) (first second third : List ℕ)
-    → Appends held mid first → AppendsFront mid now second
-    → AppendsFront held now ((first ++ second) ++ third)
-cut_between held mid now first second third p cut = cut_longer held now (first ++ second) third
-    (cut_behind held mid now first second p cut)
-
--- two texts, and then a front of a third
-pub cut_third : (held mid late now : Option (List ℕ)) (first second third : List ℕ)
-    → Appends held mid first → Appends mid late second → AppendsFront late now third
-    → AppendsFront held now ((first ++ second) ++ third)
-cut_third held mid late now first second third p q cut = cut_behind held late now (first ++ second)
-    third (Appends-trans held mid late first second p q) cut
-
--- three texts
-pub written_third : (held mid late now : Option (List ℕ)) (first second third : List ℕ)
-    → Appends held mid first → Appends mid late second → Appends late now third
-    → Appends held now ((first ++ second) ++ third)
-written_third held mid late now first second third p q r = Appends-trans held late now
-    (first ++ second) third (Appends-trans held mid late first second p q) r
 
 -- a line that is begun leaves a front of all lines
 pub lines_cut : {A : Type 0} (line : ℕ → A → List ℕ) (held mid now : Option (List ℕ)) (xs : List A)

@@ -1,10 +1,9 @@
 -- What a run does, by what its words ask for.
-use Rattle.std.proofs.Common.{◌≡◌, List, [], ℕ, inl, inr, refl, arith, ⊎_elim, Option, Some, None}
+use Rattle.std.proofs.Common.{◌≡◌, [], ℕ, inl, inr, refl, arith, ⊎_elim, Option, Some, None}
 use Rattle.std.proofs.KnownBytes.{Consumes-nil, Keeps-refl}
 use Rattle.std.specs.Io.KnownBytes.{Consumes}
 use Rattle.packet_pass.specs.declared.kind.Pass.{Pass}
 use Rattle.packet_pass.specs.declared.kind.Pass.TheVariants.{Lose, Show}
-use Rattle.tool_base.specs.Commands.{command_of}
 use Rattle.tool_base.specs.Status.{fault_text}
 use Rattle.tool_base.specs.declared.command.Command.{Command}
 use Rattle.tool_base.specs.declared.command.Command.TheVariants as command
@@ -12,18 +11,18 @@ use Rattle.tool_base.specs.declared.status.Status.{Status}
 use Rattle.tool_base.specs.declared.status.Status.TheVariants as status
 use Rattle.eperftool.specs.Outside.{Hearing, Stream, Streams}
 use Rattle.eperftool.specs.PassRun.{IsPassRun}
-use Rattle.eperftool.specs.Run.{IsCommandRun, IsRun, IsUsageRun}
+use Rattle.eperftool.specs.Run.{IsCommandRun, IsUsageRun}
 use Rattle.eperftool.specs.Written.{IsTold}
 use Rattle.eperftool.specs.declared.refusal.Refusal.TheVariants.{Memory}
 use Rattle.eperftool.proofs.PassRuns.{ends_refused}
 use Rattle.eperftool.proofs.Telling.{keeps_same}
 
--- what the command of the words does is what a run of them does
-pub runs_asked : (words : List (List ℕ)) (before after : Streams) (watch watch_now : Hearing)
-    (ended : Status) (asked : Option Command)
-    → command_of words ≡ asked → IsCommandRun asked before after watch watch_now ended
-    → IsRun words before after watch watch_now ended
-runs_asked words before after watch watch_now ended asked means run = rw means run
+-- what is asked for is done, by whatever name
+pub runs_asked : (before after : Streams) (watch watch_now : Hearing) (ended : Status)
+    (means asked : Option Command)
+    → means ≡ asked → IsCommandRun asked before after watch watch_now ended
+    → IsCommandRun means before after watch watch_now ended
+runs_asked before after watch watch_now ended means asked is run = rw is run
 
 module _ (before : Streams) (report : Stream) where
   abbrev after : Streams
@@ -57,7 +56,7 @@ module _ (before : Streams) (report : Stream) where
     memory = λ same. inl (Keeps-refl before.output.bytes);
     refused = λ refused. (Memory, refl, tt, told);
     unwritten = λ refused apart. Keeps-refl before.output.bytes;
-    taken = ([], Consumes-nil before.input.bytes);
+    taken = ([], Consumes-nil before.input.bytes, omega arith);
     ends = inl tt;
   })
   runs_out watch (Some (command.Decode draws early most)) ended is told = rw is (record {

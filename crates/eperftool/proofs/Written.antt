@@ -4,8 +4,9 @@ use Rattle.std.proofs.Common.{append_assoc, append-nil}
 use Rattle.std.specs.Io.KnownBytes.{Appends}
 use Rattle.std.proofs.KnownBytes.{Appends-trans}
 use Rattle.fec_base.specs.Bytes.{AppendsFront, AppendsPart}
+use Rattle.fec_base.proofs.Cuts.{cut_longer}
 use Rattle.eperftool.specs.Staged.{PassesOn, PassesPart}
-use Rattle.eperftool.proofs.Passing.{cut_longer, packets_cut, end_cut, end_whole}
+use Rattle.eperftool.proofs.Passing.{packets_cut, end_cut, end_whole}
 
 -- bytes that were handed over while nothing waited
 handed_over : (held mid : Option (List ℕ)) (before header : List ℕ) → before ≡ []

@@ -1,8 +1,9 @@
 -- What an `encode` does.
 use Rattle.std.specs.Io.KnownBytes.{Appends, Consumes, IsAtEnd, Keeps}
-use Rattle.std.specs.Prelude.{List, Option, Some, length, ℕ, ⊤, ◌<◌, ◌≡◌, ◌≢◌, ◌⊎◌}
+use Rattle.std.specs.Prelude.{List, Option, Some, length, ℕ, ⊤, ◌+◌, ◌<◌, ◌≡◌, ◌≢◌, ◌⊎◌}
 use Rattle.fec_base.specs.Causes.{Rose}
 use Rattle.packet_file.specs.Header.{IsHeader, size_fault}
+use Rattle.packet_file.specs.Taking.{TakesAtMost}
 use Rattle.packet_file.specs.declared.fault.FileFault.{FileFault}
 use Rattle.packet_file.specs.declared.fault.FileFault.TheVariants.{ReadFault, TooLarge}
 use Rattle.packet_file.specs.declared.fault.Limit.TheVariants.{Length}
@@ -12,12 +13,17 @@ use Rattle.eperftool.specs.File.{IsEncoding}
 use Rattle.eperftool.specs.Options.{header_for}
 use Rattle.eperftool.specs.Outside.{Stream, Streams}
 use Rattle.eperftool.specs.Refusals.{IsRefused, refusal_status, refusal_text}
-use Rattle.eperftool.specs.Written.{IsCut, IsTold, TakesSome}
+use Rattle.eperftool.specs.Written.{IsCut, IsTold}
 use Rattle.fec_base.specs.Bytes.{AppendsPart}
 use Rattle.eperftool.specs.declared.options.EncodeOptions.{EncodeOptions}
 use Rattle.eperftool.specs.declared.refusal.Refusal.{Refusal}
 use Rattle.eperftool.specs.declared.refusal.Refusal.TheVariants.{Draws, File, Memory, Watch}
 use Rattle.tool_base.specs.declared.status.Status.TheVariants as status
+
+-- how many bytes of the input are taken at most: the longest object, and the piece that shows that
+-- it is longer
+abbrev pub most_taken : ℕ
+most_taken = 268435456 + 65536
 
 -- the input is longer than an object may be, or it was read to its end, and the sizes of its file
 -- pass a limit: this is the fault
@@ -72,7 +78,7 @@ pub record IsEncodeRun (o : EncodeOptions) (before after : Streams) (ended : Sta
   -- no output but at Done, WriteFault and Memory
   pub unwritten : IsRefused ended → ended ≢ status.Memory
       → Keeps before.output.bytes after.output.bytes
-  -- what was taken is a front of the input
-  pub taken : TakesSome before.input.bytes after.input.bytes
+  -- what was taken is a front of the input, at most so much
+  pub taken : TakesAtMost before.input.bytes after.input.bytes most_taken
   -- no status is left but these
   pub ends : IsRefused ended ⊎ ((ended ≡ status.Done) ⊎ (ended ≡ status.WriteFault))

@@ -51,8 +51,8 @@ pub record AreEncoded (h : HeaderFields) (draws : Option ℕ) (object : List ℕ
 
 -- the packets of a block's codeword, in rising order of the ESI
 abbrev pub block_packets : ℕ → List (List ℕ) → List ℕ
-block_packets b word = flat_map (λ (p : ℕ
-    × List ℕ). packet_bytes (identifier b p.0) p.1) (enumerate_from 0 word)
+block_packets b word = flat_map (λ (p : ℕ × List ℕ). packet_bytes (identifier b p.0) p.1)
+    (enumerate_from 0 word)
 
 -- the packets of all blocks, block by block
 abbrev pub packets : List (List (List ℕ)) → List ℕ

@@ -28,7 +28,8 @@ pub record IsMade (h : HeaderFields) (draws : Option ℕ) (object : List ℕ) (m
     pub room : made.staging.room ≡ 262144
 
 -- the bytes have all source symbols of the file, and each block has a matrix of its size
-pub record IsReady (h : HeaderFields) (matrices : List Matrix) (bytes : List ℕ) : Type 0 where
+pub record IsReadyToWrite (h : HeaderFields) (matrices : List Matrix) (bytes : List ℕ) :
+    Type 0 where
   pub long : length bytes ≡ div_ceil h.oti.length h.oti.symbol * h.oti.symbol
   pub each : (b : ℕ) → b < length (source_counts h) → HasSize matrices (count_at h b)
   pub sized : All (λ m. m.n ≡ symbol_count h m.k) matrices
@@ -39,7 +40,7 @@ block_source h bytes b = symbols_of h.oti.symbol (count_at h b)
     (drop (block_start h b * h.oti.symbol) bytes)
 
 -- the words are the codewords of the source blocks in the bytes, each by every matrix of its size
-pub record AreWords (h : HeaderFields) (matrices : List Matrix) (bytes : List ℕ)
+pub record AreCodewords (h : HeaderFields) (matrices : List Matrix) (bytes : List ℕ)
     (words : List (List (List ℕ))) : Type 0 where
   pub counted : length words ≡ length (source_counts h)
   pub each : (b : ℕ) (m : Matrix) → b < length words → Contains matrices m → m.k ≡ count_at h b

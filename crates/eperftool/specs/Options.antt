@@ -13,8 +13,7 @@ header_for o size = record {
     symbol = o.symbol;
     n1m3 = o.shape.n1 - 3;
     group = 1;
-    block =
-        o.block;
+    block = o.block;
     max_n = o.max_n;
     seed = seed_field o.shape;
   };

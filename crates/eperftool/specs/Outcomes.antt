@@ -34,8 +34,8 @@ block_line b o = codes "block " ++ decimal b ++ outcome_words o
 
 -- what is reported of the blocks
 abbrev pub block_lines : List Outcome → List ℕ
-block_lines outcomes = flat_map (λ (p : ℕ
-    × Outcome). block_line p.0 p.1) (enumerate_from 0 outcomes)
+block_lines outcomes = flat_map (λ (p : ℕ × Outcome). block_line p.0 p.1)
+    (enumerate_from 0 outcomes)
 
 -- the report of a `decode`: a line for each block, and the number of packets
 abbrev pub decode_report : List Outcome → ℕ → List ℕ

@@ -45,10 +45,10 @@ HaveSource h outcomes = (b : ℕ) (o : Outcome) → b < length outcomes
     → HasSource (count_at h b) (slice_index_or outcomes b o)
 
 -- the matrix of a block's decoder
-abbrev pub code_of : List Decoder → ℕ → Matrix
-code_of [] b = record { k = 0; n = 0; rows = [] }
-code_of (d ∷ decoders) zero = d.matrix
-code_of (d ∷ decoders) (suc b) = code_of decoders b
+abbrev pub matrix_at : List Decoder → ℕ → Matrix
+matrix_at [] b = record { k = 0; n = 0; rows = [] }
+matrix_at (d ∷ decoders) zero = d.matrix
+matrix_at (d ∷ decoders) (suc b) = matrix_at decoders b
 
 -- each decoder stands for what arrived for its block
 abbrev pub StandForAll : List Packet → List Decoder → Type 0
@@ -56,8 +56,8 @@ StandForAll packets decoders = (b : ℕ) (d : Decoder) → b < length decoders
     → StandsFor (slice_index_or decoders b d) (arrivals_of b packets)
 
 -- the decoders of the file's blocks, by these matrices, which received these packets
-pub record AreCores (h : HeaderFields) (code : ℕ
-    → Matrix) (packets : List Packet) (decoders : List Decoder) : Type 0 where
+pub record AreCores (h : HeaderFields) (code : ℕ → Matrix) (packets : List Packet)
+    (decoders : List Decoder) : Type 0 where
   pub counted : length decoders ≡ length (source_counts h)
   pub matrix : (b : ℕ) (d : Decoder) → b < length decoders
       → (slice_index_or decoders b d).matrix ≡ code b

@@ -36,7 +36,7 @@ AreAmong packets others = All (Contains others) packets
 
 -- block b of the file comes out so by these packets: as what arrived for it determines, by the
 -- matrix for its size
-pub record ComesOut (h : HeaderFields) (draws : Option ℕ) (packets : List Packet) (b : ℕ)
+pub record BlockComesOut (h : HeaderFields) (draws : Option ℕ) (packets : List Packet) (b : ℕ)
     (o : Outcome) : Type 0 where
   pub matrix : Matrix
   pub code : header_matrix h draws (count_at h b) ≡ Some matrix
@@ -47,7 +47,7 @@ pub record ComeOutBy (h : HeaderFields) (draws : Option ℕ) (packets : List Pac
     (outcomes : List Outcome) : Type 0 where
   pub counted : length outcomes ≡ length (source_counts h)
   pub each : (b : ℕ) (o : Outcome) → b < length outcomes
-      → ComesOut h draws packets b (slice_index_or outcomes b o)
+      → BlockComesOut h draws packets b (slice_index_or outcomes b o)
 
 -- a block that isn't contradicted, and that has this source where it has one
 abbrev pub IsRight : List (List ℕ) → Outcome → Type 0

@@ -48,7 +48,11 @@ abbrev pub IsRun : List (List ℕ) → Streams → Streams → Hearing → Heari
 IsRun words before after watch watch_now ended =
     IsCommandRun (command_of words) before after watch watch_now ended
 
+-- this is no `decode`
+abbrev pub IsNoDecode : Option Command → Type 0
+IsNoDecode asked = (draws : Option ℕ) (early : Bool) (most : ℕ)
+    → asked ≢ Some (command.Decode draws early most)
+
 -- the words mean no `decode`
 abbrev pub AsksNoDecode : List (List ℕ) → Type 0
-AsksNoDecode words = (draws : Option ℕ) (early : Bool) (most : ℕ)
-    → command_of words ≢ Some (command.Decode draws early most)
+AsksNoDecode words = IsNoDecode (command_of words)

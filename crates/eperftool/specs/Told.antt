@@ -26,24 +26,23 @@ new_places code before p = map (λ e. record { block = p.0.sbn; esi = e })
 
 -- what is told of once these packets came: packet by packet what it makes known
 unfoldable pub told_places : (ℕ → Matrix) → List Packet → List Place
-told_places code packets = flat_map (λ (q : ℕ
-    × Packet). new_places code (take q.0 packets) q.1) (enumerate_from 0 packets)
+told_places code packets = flat_map (λ (q : ℕ × Packet). new_places code (take q.0 packets) q.1)
+    (enumerate_from 0 packets)
 
 -- a symbol that was told as one of these packets came, by the bytes that what its block had
 -- received by then leaves to it
-pub record IsToldBy (code : ℕ
-    → Matrix) (len : ℕ) (packets : List Packet) (t : Telling) : Type 0 where
-  pub before : List Packet
-  pub packet : Packet
-  pub after : List Packet
-  pub packets_are : packets ≡ before ++ packet ∷ after
-  pub place : Contains (new_places code before packet) (place_of t)
-  pub forced : IsForced (code t.block) len (arrivals_of t.block (before ++ packet ∷ [])) t.esi
-      t.bytes
+pub record IsToldBy (code : ℕ → Matrix) (len : ℕ) (packets : List Packet) (t : Telling) : Type 0
+  where
+    pub before : List Packet
+    pub packet : Packet
+    pub after : List Packet
+    pub packets_are : packets ≡ before ++ packet ∷ after
+    pub place : Contains (new_places code before packet) (place_of t)
+    pub forced : IsForced (code t.block) len (arrivals_of t.block (before ++ packet ∷ [])) t.esi
+        t.bytes
 
 -- the watch was told of these places, one after the other, as these packets came, each by its bytes
-pub record TellsOf (code : ℕ
-    → Matrix) (len : ℕ) (packets : List Packet) (places : List Place)
+pub record TellsOf (code : ℕ → Matrix) (len : ℕ) (packets : List Packet) (places : List Place)
     (told told_now : Option (List Telling)) : Type 0 where
   pub tellings : List Telling
   pub grown : GrowsTold told told_now tellings
@@ -57,27 +56,26 @@ IsWhole h code packets = (b : ℕ) → b < length (source_counts h)
 
 -- packets that are taken: each is of the file, at most `most`; and with `early` none came once all
 -- source was known
-pub record AreTaken (h : HeaderFields) (code : ℕ
-    → Matrix) (early : Bool) (most : ℕ) (packets : List Packet) : Type 0 where
+pub record AreTaken (h : HeaderFields) (code : ℕ → Matrix) (early : Bool) (most : ℕ)
+    (packets : List Packet) : Type 0 where
   pub each : All (IsPacketOf h) packets
   pub few : length packets ≤ most
   pub least : early ≡ true → (i : ℕ) → i < length packets → ¬ IsWhole h code (take i packets)
 
 -- a run stands at these packets of a file: behind the header they were taken from the input, and
 -- then `rest`, and what they make known was told
-pub record StandsAt (h : HeaderFields) (code : ℕ
-    → Matrix) (early : Bool) (most : ℕ) (left left_now : Option (List ℕ))
-    (told told_now : Option (List Telling)) (packets : List Packet) (rest : List ℕ) : Type 0 where
+pub record StandsAt (h : HeaderFields) (code : ℕ → Matrix) (early : Bool) (most : ℕ)
+    (left left_now : Option (List ℕ)) (told told_now : Option (List Telling))
+    (packets : List Packet) (rest : List ℕ) : Type 0 where
   pub packets_are : AreTaken h code early most packets
   pub taken : Consumes left left_now (spelled packets ++ rest)
   pub told_of : TellsOf code h.oti.symbol packets (told_places code packets) told told_now
 
 -- a run stands within what its last packet makes known: no byte behind that was taken, and of what
 -- it makes known `count` were told, which aren't all
-pub record StandsWithin (h : HeaderFields) (code : ℕ
-    → Matrix) (early : Bool) (most : ℕ) (left left_now : Option (List ℕ))
-    (told told_now : Option (List Telling)) (before : List Packet) (last : Packet) (count : ℕ) :
-    Type 0 where
+pub record StandsWithin (h : HeaderFields) (code : ℕ → Matrix) (early : Bool) (most : ℕ)
+    (left left_now : Option (List ℕ)) (told told_now : Option (List Telling)) (before : List Packet)
+    (last : Packet) (count : ℕ) : Type 0 where
   pub packets_are : AreTaken h code early most (before ++ last ∷ [])
   pub taken : Consumes left left_now (spelled (before ++ last ∷ []))
   pub part : count < length (new_places code before last)
@@ -89,8 +87,8 @@ abbrev pub IsOver : Bool → Option (List ℕ) → HeaderFields → (ℕ → Mat
 IsOver early left_now h code packets = IsAtEnd left_now ⊎ ((early ≡ true) × IsWhole h code packets)
 
 -- the header of a file whose blocks have these matrices was taken
-pub record Opens (draws : Option ℕ) (left mid : Option (List ℕ)) (h : HeaderFields) (code : ℕ
-    → Matrix) : Type 0 where
+pub record Opens (draws : Option ℕ) (left mid : Option (List ℕ)) (h : HeaderFields)
+    (code : ℕ → Matrix) : Type 0 where
   pub header : IsHeader h
   pub codes : HasCodes h draws code
   pub taken : Consumes left mid (header_bytes h)

@@ -6,14 +6,15 @@ ghost use Rattle.tool_base.specs.Ranges.{IsInRange};
 ghost use Rattle.fec_base.specs.Bytes.{AppendsFront, AppendsPart};
 ghost use Rattle.fec_base.specs.Causes.{HasCause};
 ghost use Rattle.packet_file.specs.Header.{header_bytes};
-ghost use Rattle.eperftool.specs.EncodeRun.{IsEncodeRun, ReadsObject, RefusesEncode};
+ghost use Rattle.packet_file.specs.Taking.{TakesAtMost};
+ghost use Rattle.eperftool.specs.EncodeRun.{IsEncodeRun, ReadsObject, RefusesEncode, most_taken};
 ghost use Rattle.eperftool.specs.File.{encode_report, packets};
-ghost use Rattle.eperftool.specs.Made.{AreWords, IsMade, IsReady, RefusesMaking};
+ghost use Rattle.eperftool.specs.Made.{AreCodewords, IsMade, IsReadyToWrite, RefusesMaking};
 ghost use Rattle.eperftool.specs.Options.{header_for};
 ghost use Rattle.eperftool.specs.Asking.{encode_command};
 ghost use Rattle.eperftool.specs.Outside.{seen, stream};
 ghost use Rattle.eperftool.specs.Refusals.{refusal_text};
-ghost use Rattle.eperftool.specs.Written.{IsCut, IsTold, TakesSome};
+ghost use Rattle.eperftool.specs.Written.{IsCut, IsTold};
 ghost use Rattle.eperftool.specs.declared.refusal.Refusal.TheVariants.{Memory};
 
 use crate::{
@@ -73,7 +74,7 @@ fn read_and_make<S: Source>(
     ensures refusal { IfErr result (RefusesEncode options.now
         (stream (S.left input.old) (S.faults input.old))
         (stream (S.left input.new) (S.faults input.new))) }
-    ensures taken { TakesSome (S.left input.old) (S.left input.new) }
+    ensures taken { TakesAtMost (S.left input.old) (S.left input.new) most_taken }
 {
     let object = read_object(alloc, input)?;
     make_file(alloc, options, object)
@@ -103,17 +104,17 @@ fn make_file(alloc: Global, options: &EncodeOptions, mut object: Vec<u8>) -> Res
 
 // Writes the packet file and then the report.
 fn deliver<K: Sink, R: Sink>(alloc: Global, made: Made, output: &mut K, report: &mut R) -> Status
-    requires ready { IsReady made.header made.codes.items made.object.items }
+    requires ready { IsReadyToWrite made.header made.codes.items made.object.items }
     requires empty { made.staging.bytes ≡ [] }
     requires room { made.staging.room ≡ 262144 }
     ensures done { result ≡ Status.Done → (words : List (List (List ℕ)))
-        → AreWords made.header made.codes.items made.object.items words
+        → AreCodewords made.header made.codes.items made.object.items words
         → Appends (K.held output.old) (K.held output.new)
         (header_bytes made.header ++ packets words)
         × Appends (R.held report.old) (R.held report.new)
         (encode_report (length words) (sum_by length words)) }
     ensures cut { result ≡ Status.WriteFault → (words : List (List (List ℕ)))
-        → AreWords made.header made.codes.items made.object.items words
+        → AreCodewords made.header made.codes.items made.object.items words
         → IsCut (header_bytes made.header ++ packets words)
         (encode_report (length words) (sum_by length words))
         (stream (K.held output.old) (K.faults output.old))
@@ -121,7 +122,7 @@ fn deliver<K: Sink, R: Sink>(alloc: Global, made: Made, output: &mut K, report: 
         (stream (R.held report.old) (R.faults report.old))
         (stream (R.held report.new) (R.faults report.new)) }
     ensures memory { result ≡ Status.Memory → (words : List (List (List ℕ)))
-        → AreWords made.header made.codes.items made.object.items words
+        → AreCodewords made.header made.codes.items made.object.items words
         → AppendsPart (K.held output.old) (K.held output.new)
         (header_bytes made.header ++ packets words) }
     ensures told { result ≡ Status.Memory → IsTold (refusal_text Memory)

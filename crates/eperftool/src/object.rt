@@ -4,9 +4,10 @@ ghost use Rattle.std.specs.Io.KnownBytes.{Consumes, IsAtEnd};
 ghost use Rattle.packet_file.specs.declared.fault.Limit.TheVariants.{Length};
 ghost use Rattle.packet_file.specs.declared.fault.FileFault.TheVariants.{TooLarge};
 ghost use Rattle.eperftool.specs.declared.refusal.Refusal.TheVariants.{Memory, File};
+ghost use Rattle.packet_file.specs.Taking.{TakesAtMost};
+ghost use Rattle.eperftool.specs.EncodeRun.{most_taken};
 ghost use Rattle.eperftool.specs.Object.{RefusesObject, RefusesPiece};
 ghost use Rattle.eperftool.specs.Receiving.{TakesBehind};
-ghost use Rattle.eperftool.specs.Written.{TakesSome};
 
 use crate::Refusal;
 use fec_base::{ReadFailed, Source, read_full};
@@ -23,7 +24,7 @@ const TOO_LONG: Refusal = Refusal::File(FileFault::TooLarge(Limit::Length));
 
 /// The whole input, where it has at most 268,435,456 bytes. It is read in pieces of 65,536 bytes,
 /// so that memory grows with the input; where there are more bytes, the piece that shows it is the
-/// last.
+/// last, and nothing behind it is taken.
 pub fn read_object<S: Source>(alloc: Global, input: &mut S) -> Result<Vec<u8>, Refusal>
     ensures bound { IfOk result (λ object. vec_len object ≤ 268435456) }
     ensures bytes { IfOk result (λ object.
@@ -32,7 +33,7 @@ pub fn read_object<S: Source>(alloc: Global, input: &mut S) -> Result<Vec<u8>, R
     ensures refusal { IfErr result
         (λ refusal. RefusesObject (S.left input.old) (S.left input.new) (S.faults input.old)
         (S.faults input.new) refusal) }
-    ensures taken { TakesSome (S.left input.old) (S.left input.new) }
+    ensures taken { TakesAtMost (S.left input.old) (S.left input.new) most_taken }
 {
     let mut object = Vec::new(alloc);
     let mut piece = new_piece(alloc, PIECE_LEN)?;
@@ -78,7 +79,9 @@ fn take_piece<S: Source>(
     ensures end { IfOk result (λ taken. taken < length piece.new → IsAtEnd (S.left input.new)) }
     ensures refusal { IfErr result (λ refusal.
         RefusesPiece (S.faults input.old) (S.faults input.new) refusal) }
-    ensures taken { OnErr result (TakesSome (S.left input.old) (S.left input.new)) }
+    ensures taken { OnErr result
+        (TakesAtMost (S.left input.old) (S.left input.new) (length piece.new)) }
+    ensures len_stays { length piece.new ≡ length piece.old }
     ensures later { S.faults input.old ≤ S.faults input.new }
 {
     let taken = match read_full(input, piece) {

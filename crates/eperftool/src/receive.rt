@@ -13,7 +13,7 @@ ghost use Rattle.eperftool.specs.BuiltCodes.{AreBlockCodes};
 ghost use Rattle.eperftool.specs.DecodeRun.{FailsAtPackets, RefusesDecode};
 ghost use Rattle.eperftool.specs.Outside.{hearing, stream};
 ghost use Rattle.eperftool.specs.Receiving.{AreCores, FailsAtOne, IsReceived, RefusesOpening};
-ghost use Rattle.eperftool.specs.Receiving.{TakesPacket, code_of};
+ghost use Rattle.eperftool.specs.Receiving.{TakesPacket, matrix_at};
 ghost use Rattle.eperftool.specs.Told.{IsOver, StandsAt};
 ghost use Rattle.eperftool.specs.Written.{TakesSome};
 ghost use Rattle.packet_file.specs.Packets.{Packet};
@@ -124,14 +124,14 @@ fn take_packets<S: Source, W: Watch>(
     receiver: &mut Receiver<W>,
 ) -> Result<u64, Refusal>
     requires piece { length piece.old ≡ 4 + header.now.oti.symbol }
-    requires cores { AreCores header.now (code_of receiver.old.cores) [] receiver.old.cores }
+    requires cores { AreCores header.now (matrix_at receiver.old.cores) [] receiver.old.cores }
     ensures packets { IfOk result (λ count. (packets : List Packet)
-        × StandsAt header.now (code_of receiver.old.cores) early most (S.left input.old)
+        × StandsAt header.now (matrix_at receiver.old.cores) early most (S.left input.old)
         (S.left input.new) (W.told receiver.old.watch) (W.told receiver.new.watch) packets []
-        × IsOver early (S.left input.new) header.now (code_of receiver.old.cores) packets
-        × AreCores header.now (code_of receiver.old.cores) packets receiver.new.cores
+        × IsOver early (S.left input.new) header.now (matrix_at receiver.old.cores) packets
+        × AreCores header.now (matrix_at receiver.old.cores) packets receiver.new.cores
         × (count ≡ length packets)) }
-    ensures refusal { IfErr result (FailsAtPackets header.now (code_of receiver.old.cores)
+    ensures refusal { IfErr result (FailsAtPackets header.now (matrix_at receiver.old.cores)
         early most
         (stream (S.left input.old) (S.faults input.old))
         (stream (S.left input.new) (S.faults input.new))

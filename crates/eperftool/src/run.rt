@@ -1,11 +1,8 @@
 // The top call.
-ghost use Rattle.std.specs.Prelude.{◌≡◌, ◌≢◌, ◌⊎◌, ℕ, List};
-ghost use Rattle.std.specs.Io.KnownBytes.{Appends, Keeps};
-ghost use Rattle.tool_base.specs.Status.{fault_text};
-ghost use Rattle.fec_session.specs.declared.outcome.Outcome.{Outcome};
+ghost use Rattle.std.specs.Prelude.{◌≡◌, ◌≢◌, Some};
+ghost use Rattle.tool_base.specs.Ranges.{IsInRange};
 ghost use Rattle.eperftool.specs.Outside.{hearing, seen};
-ghost use Rattle.eperftool.specs.Run.{AsksNoDecode, IsRun};
-ghost use Rattle.eperftool.specs.declared.refusal.Refusal.{Refusal};
+ghost use Rattle.eperftool.specs.Run.{AsksNoDecode, IsCommandRun, IsNoDecode, IsRun};
 
 use crate::{
     EncodeOptions, Ended, PerfOptions, Refusal, decode, encode, perf, refuse, run_pass, tell,
@@ -76,24 +73,46 @@ fn run_words<S: Source, K: Sink, R: Sink, W: Watch>(
     ensures unread { result.status ≡ Status.Usage → input.new ≡ input.old }
 {
     match read_words(alloc, words) {
-        Err(NoMemory) => {
-            let status = refuse(report, Refusal::Memory);
-            Ended { status, watch }
-        }
+        Ok(Some(command)) => run_command(alloc, command, input, output, report, watch),
         Ok(None) => {
             let status = tell(report, Status::Usage);
             Ended { status, watch }
         }
-        Ok(
-            Some(
-                Command::Encode {
-                    shape,
-                    symbol,
-                    block,
-                    max_n,
-                },
-            ),
-        ) => {
+        Err(NoMemory) => {
+            let status = refuse(report, Refusal::Memory);
+            Ended { status, watch }
+        }
+    }
+}
+
+// Runs a command.
+fn run_command<S: Source, K: Sink, R: Sink, W: Watch>(
+    alloc: Global,
+    command: Command,
+    input: &mut S,
+    output: &mut K,
+    report: &mut R,
+    watch: W,
+) -> Ended<W>
+    requires { IsInRange command }
+    ensures runs { IsCommandRun (Some command)
+        (seen (S.left input.old) (S.faults input.old) (K.held output.old) (K.faults output.old)
+        (R.held report.old) (R.faults report.old))
+        (seen (S.left input.new) (S.faults input.new) (K.held output.new) (K.faults output.new)
+        (R.held report.new) (R.faults report.new))
+        (hearing (W.told watch) (W.faults watch))
+        (hearing (W.told result.watch) (W.faults result.watch)) result.status }
+    ensures name { W.name result.watch ≡ W.name watch }
+    ensures watch { IsNoDecode (Some command) → result.watch ≡ watch }
+    ensures used { result.status ≢ Status.Usage }
+{
+    match command {
+        Command::Encode {
+            shape,
+            symbol,
+            block,
+            max_n,
+        } => {
             let options = EncodeOptions {
                 shape,
                 symbol,
@@ -103,46 +122,34 @@ fn run_words<S: Source, K: Sink, R: Sink, W: Watch>(
             let status = encode(alloc, &options, input, output, report);
             Ended { status, watch }
         }
-        Ok(
-            Some(
-                Command::Decode {
-                    draws,
-                    early,
-                    packets,
-                },
-            ),
-        ) => decode(alloc, draws, early, packets, input, output, report, watch),
-        Ok(
-            Some(
-                Command::Lose {
-                    loss,
-                    seed,
-                    packets,
-                },
-            ),
-        ) => {
+        Command::Decode {
+            draws,
+            early,
+            packets,
+        } => decode(alloc, draws, early, packets, input, output, report, watch),
+        Command::Lose {
+            loss,
+            seed,
+            packets,
+        } => {
             let lose = Pass::Lose { loss, seed };
             let status = run_pass(alloc, lose, packets, input, output, report);
             Ended { status, watch }
         }
-        Ok(Some(Command::Show { packets })) => {
+        Command::Show { packets } => {
             let status = run_pass(alloc, Pass::Show, packets, input, output, report);
             Ended { status, watch }
         }
-        Ok(
-            Some(
-                Command::Perf {
-                    shape,
-                    symbol,
-                    k,
-                    n,
-                    loss,
-                    random,
-                    runs,
-                    run_seed,
-                },
-            ),
-        ) => {
+        Command::Perf {
+            shape,
+            symbol,
+            k,
+            n,
+            loss,
+            random,
+            runs,
+            run_seed,
+        } => {
             let plan = RunPlan {
                 symbol,
                 loss,

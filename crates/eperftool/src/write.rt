@@ -8,7 +8,7 @@ ghost use Rattle.oti_fields.specs.Fields.{FitsIdBits};
 ghost use Rattle.packet_file.specs.Header.{header_bytes, source_counts};
 ghost use Rattle.packet_file.specs.Packets.{block_symbols, packet_bytes};
 ghost use Rattle.eperftool.specs.File.{block_packets, packets};
-ghost use Rattle.eperftool.specs.Made.{AreWords, IsReady};
+ghost use Rattle.eperftool.specs.Made.{AreCodewords, IsReadyToWrite};
 ghost use Rattle.eperftool.specs.Staged.{PassesOn, PassesPart};
 ghost use Rattle.eperftool.specs.declared.write.WriteRefusal.TheVariants.{Memory, Output};
 
@@ -56,19 +56,21 @@ pub fn write_file<K: Sink>(
     codes: &[Code],
     object: &[u8],
 ) -> Result<(), WriteRefusal>
-    requires ready { IsReady header.now codes.now object.now }
+    requires ready { IsReadyToWrite header.now codes.now object.now }
     requires empty { staging.old.bytes ≡ [] }
     requires room { staging.old.room ≡ 262144 }
     ensures written { (words : List (List (List ℕ)))
-        → AreWords header.now codes.now object.now words
+        → AreCodewords header.now codes.now object.now words
         → OnOk result
         (Appends (K.held sink.old) (K.held sink.new)
         (header_bytes header.now ++ packets words)) }
-    ensures cut { (words : List (List (List ℕ))) → AreWords header.now codes.now object.now words
+    ensures cut { (words : List (List (List ℕ)))
+        → AreCodewords header.now codes.now object.now words
         → result ≡ Err Output
         → AppendsFront (K.held sink.old) (K.held sink.new)
         (header_bytes header.now ++ packets words) }
-    ensures memory { (words : List (List (List ℕ))) → AreWords header.now codes.now object.now words
+    ensures memory { (words : List (List (List ℕ)))
+        → AreCodewords header.now codes.now object.now words
         → result ≡ Err Memory
         → AppendsPart (K.held sink.old) (K.held sink.new)
         (header_bytes header.now ++ packets words) }
@@ -90,16 +92,19 @@ fn put_blocks<K: Sink>(
     codes: &[Code],
     object: &[u8],
 ) -> Result<(), WriteRefusal>
-    requires ready { IsReady header.now codes.now object.now }
+    requires ready { IsReadyToWrite header.now codes.now object.now }
     requires room { staging.old.room ≡ 262144 }
-    ensures passed { (words : List (List (List ℕ))) → AreWords header.now codes.now object.now words
+    ensures passed { (words : List (List (List ℕ)))
+        → AreCodewords header.now codes.now object.now words
         → OnOk result
         (PassesOn (K.held sink.old) (K.held sink.new) staging.old.bytes staging.new.bytes
         (packets words)) }
-    ensures cut { (words : List (List (List ℕ))) → AreWords header.now codes.now object.now words
+    ensures cut { (words : List (List (List ℕ)))
+        → AreCodewords header.now codes.now object.now words
         → result ≡ Err Output
         → AppendsFront (K.held sink.old) (K.held sink.new) (staging.old.bytes ++ packets words) }
-    ensures memory { (words : List (List (List ℕ))) → AreWords header.now codes.now object.now words
+    ensures memory { (words : List (List (List ℕ)))
+        → AreCodewords header.now codes.now object.now words
         → result ≡ Err Memory
         → PassesPart (K.held sink.old) (K.held sink.new) staging.old.bytes staging.new.bytes
         (packets words) }
@@ -121,9 +126,10 @@ fn encode_source(
     object: &[u8],
     block: u32,
 ) -> Result<Coded, NoMemory>
-    requires ready { IsReady header.now codes.now object.now }
+    requires ready { IsReadyToWrite header.now codes.now object.now }
     requires block { block < length (source_counts header.now) }
-    ensures word { (words : List (List (List ℕ))) → AreWords header.now codes.now object.now words
+    ensures word { (words : List (List (List ℕ)))
+        → AreCodewords header.now codes.now object.now words
         → IfOk result (λ word. word ≡ slice_index_or words block []) }
     ensures counted { IfOk result (λ word. length word ≡ block_symbols header.now block) }
     ensures symbols { IfOk result (All (λ symbol. length symbol ≤ 65535)) }

@@ -4,7 +4,7 @@ use Rattle.sparse_rows.specs.Matrix.{Matrix}
 use Rattle.fec_session.specs.Session.{ComeOut}
 use Rattle.fec_session.specs.declared.outcome.Outcome.{Outcome}
 use Rattle.tool_base.specs.declared.status.Status.TheVariants as status
-use Rattle.eperftool.specs.DecodeRun.{Decided, Decodes, LacksMemory}
+use Rattle.eperftool.specs.DecodeRun.{Decodes, LacksMemory}
 use Rattle.eperftool.specs.Outcomes.{decode_report, object_of}
 use Rattle.eperftool.specs.Outside.{Hearing, Stream, hearing, stream}
 use Rattle.eperftool.specs.Told.{StandsAt}

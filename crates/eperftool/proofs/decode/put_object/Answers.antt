@@ -4,12 +4,13 @@ use Rattle.std.specs.List.{flat_map}
 use Rattle.std.proofs.lemmas.List.{take_all}
 use Rattle.std.proofs.KnownBytes.{Appends-nil}
 use Rattle.fec_base.specs.Bytes.{AppendsFront}
+use Rattle.fec_base.proofs.Cuts.{cut_longer, on_err}
 use Rattle.eperftool.specs.Staged.{PassesOn}
 use Rattle.eperftool.specs.Codes.{count_at}
 use Rattle.eperftool.specs.Receiving.{HasSource}
 use Rattle.eperftool.specs.Outcomes.{object_of, source_bytes}
 use Rattle.eperftool.proofs.Blocks.{blocks_more, blocks_left, blocks_front}
-use Rattle.eperftool.proofs.Passing.{passes_after, passes_none, cut_after, cut_longer, on_err}
+use Rattle.eperftool.proofs.Passing.{passes_after, passes_none, cut_after}
 use Rattle.eperftool.proofs.decode.put_object.Goals as goal
 
 pub put_source-requires-clause-known : goal.put_source-requires-clause-known

@@ -3,9 +3,10 @@ use Rattle.std.proofs.Common.{sym, ap, ◌∙◌, arith, rules}
 use Rattle.std.specs.List.{flat_map}
 use Rattle.std.proofs.lemmas.List.{get_or_default, take_all, take_min}
 use Rattle.fec_base.specs.Bytes.{AppendsFront}
+use Rattle.fec_base.proofs.Cuts.{cut_longer, on_err}
 use Rattle.eperftool.specs.Staged.{PassesOn}
 use Rattle.eperftool.proofs.Blocks.{blocks_more, blocks_left, blocks_front}
-use Rattle.eperftool.proofs.Passing.{passes_after, cut_after, cut_longer, on_err}
+use Rattle.eperftool.proofs.Passing.{passes_after, cut_after}
 use Rattle.eperftool.proofs.decode.put_symbols.Goals as goal
 
 abbrev same : List ℕ → List ℕ

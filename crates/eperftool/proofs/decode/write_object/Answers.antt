@@ -1,8 +1,9 @@
 use Rattle.std.proofs.Common.{List, ℕ, subst}
 use Rattle.fec_base.specs.Bytes.{AppendsFront}
+use Rattle.fec_base.proofs.Cuts.{on_err}
 use Rattle.eperftool.specs.Staged.{PassesOn}
 use Rattle.eperftool.specs.Outcomes.{object_of}
-use Rattle.eperftool.proofs.Passing.{cut_whole, on_err}
+use Rattle.eperftool.proofs.Passing.{cut_whole}
 use Rattle.eperftool.proofs.decode.write_object.Goals as goal
 
 pub returns-in_err-flush-clause-cut : goal.returns-in_err-flush-clause-cut

@@ -5,7 +5,7 @@ use Rattle.fec_base.specs.Bytes.{AppendsFront}
 use Rattle.tool_base.specs.declared.status.Status.{Status}
 use Rattle.tool_base.specs.declared.status.Status.TheVariants.{Done, WriteFault}
 use Rattle.eperftool.specs.File.{encode_report}
-use Rattle.eperftool.specs.Made.{AreWords}
+use Rattle.eperftool.specs.Made.{AreCodewords}
 use Rattle.eperftool.proofs.Codewords.{words_total}
 use Rattle.eperftool.proofs.encode.deliver.Goals as goal
 
@@ -24,7 +24,7 @@ when_failed (Err e) status P failed whole fault = failed
 pub returns-clause-done : goal.returns-clause-done
 returns-clause-done g c done words are =
     let h = c.args.made.header in
-    let seen = subst₂ (λ codes bytes. AreWords h codes bytes words) (sym c.deref.ensures.value)
+    let seen = subst₂ (λ codes bytes. AreCodewords h codes bytes words) (sym c.deref.ensures.value)
     (sym c.deref-2.ensures.value) are in
     let blocks : c.count.result ≡ length words = c.count.ensures.value ∙ ap length c.plan.ensures
     ∙ sym are.counted in
@@ -42,7 +42,7 @@ returns-clause-done g c done words are =
 pub returns-clause-cut : goal.returns-clause-cut
 returns-clause-cut g c fault words are =
     let h = c.args.made.header in
-    let seen = subst₂ (λ codes bytes. AreWords h codes bytes words) (sym c.deref.ensures.value)
+    let seen = subst₂ (λ codes bytes. AreCodewords h codes bytes words) (sym c.deref.ensures.value)
     (sym c.deref-2.ensures.value) are in
     let blocks : c.count.result ≡ length words = c.count.ensures.value ∙ ap length c.plan.ensures
     ∙ sym are.counted in

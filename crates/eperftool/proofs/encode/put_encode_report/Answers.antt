@@ -1,9 +1,9 @@
 use Rattle.std.proofs.Common.{decimal, subst}
 use Rattle.std.specs.Prelude.{codes}
 use Rattle.fec_base.specs.Bytes.{AppendsFront}
+use Rattle.fec_base.proofs.Cuts.{cut_behind, cut_longer, on_err}
 use Rattle.eperftool.specs.Refusals.{numbered}
-use Rattle.eperftool.proofs.Passing.{cut_longer, on_err}
-use Rattle.eperftool.proofs.Reports.{cut_behind, numbered_both}
+use Rattle.eperftool.proofs.Reports.{numbered_both}
 use Rattle.eperftool.proofs.encode.put_encode_report.Goals as goal
 
 pub returns-in_err-put_numbered-clause-cut : goal.returns-in_err-put_numbered-clause-cut

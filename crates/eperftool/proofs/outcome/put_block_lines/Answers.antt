@@ -2,8 +2,8 @@ use Rattle.std.proofs.Common.{subst, arith}
 use Rattle.std.specs.Io.KnownBytes.{Appends}
 use Rattle.fec_base.specs.Bytes.{AppendsFront}
 use Rattle.fec_session.specs.declared.outcome.Outcome.{Outcome}
+use Rattle.fec_base.proofs.Cuts.{on_err}
 use Rattle.eperftool.specs.Outcomes.{block_line}
-use Rattle.eperftool.proofs.Passing.{on_err}
 use Rattle.eperftool.proofs.Reports.{lines_cut, lines_told}
 use Rattle.eperftool.proofs.outcome.put_block_lines.Goals as goal
 

@@ -1,10 +1,10 @@
 use Rattle.std.proofs.Common.{decimal, subst}
 use Rattle.std.specs.Prelude.{codes}
 use Rattle.fec_base.specs.Bytes.{AppendsFront}
+use Rattle.fec_base.proofs.Cuts.{cut_behind, on_err}
 use Rattle.eperftool.specs.Outcomes.{block_lines}
 use Rattle.eperftool.specs.Refusals.{numbered}
-use Rattle.eperftool.proofs.Passing.{on_err}
-use Rattle.eperftool.proofs.Reports.{cut_behind, numbered_behind}
+use Rattle.eperftool.proofs.Reports.{numbered_behind}
 use Rattle.eperftool.proofs.outcome.put_decode_report.Goals as goal
 
 pub returns-in_err-put_numbered-clause-cut : goal.returns-in_err-put_numbered-clause-cut

@@ -5,10 +5,9 @@ use Rattle.std.proofs.lemmas.List.{get_or_default}
 use Rattle.std.specs.Io.KnownBytes.{Appends}
 use Rattle.std.proofs.KnownBytes.{Appends-trans}
 use Rattle.fec_base.specs.Bytes.{AppendsFront}
+use Rattle.fec_base.proofs.Cuts.{cut_behind, cut_longer, on_err}
 use Rattle.eperftool.specs.Outcomes.{spaced}
 use Rattle.eperftool.proofs.Blocks.{all_blocks, one_more}
-use Rattle.eperftool.proofs.Passing.{cut_longer, on_err}
-use Rattle.eperftool.proofs.Reports.{cut_behind}
 use Rattle.eperftool.proofs.outcome.put_positions.Goals as goal
 
 -- a position behind a space

@@ -1,8 +1,7 @@
 use Rattle.std.proofs.Common.{◌++◌}
 use Rattle.std.specs.Prelude.{codes}
+use Rattle.fec_base.proofs.Cuts.{cut_between, cut_longer, cut_third, on_err}
 use Rattle.eperftool.specs.Outcomes.{spaced}
-use Rattle.eperftool.proofs.Passing.{cut_longer, on_err}
-use Rattle.eperftool.proofs.Reports.{cut_between, cut_third}
 use Rattle.eperftool.proofs.outcome.put_word.Goals as goal
 
 pub returns-in_err-put_text-clause-cut : goal.returns-in_err-put_text-clause-cut

@@ -1,4 +1,4 @@
-use Rattle.std.proofs.Common.{rules, ◌≡◌, Result, Err, IfErr, ap, sym, ◌∙◌, subst}
+use Rattle.std.proofs.Common.{sym}
 use Rattle.eperftool.proofs.PassRuns.{ends_file, ends_memory, ends_output, ends_whole}
 use Rattle.eperftool.proofs.pass_run.run_pass.Goals as goal
 

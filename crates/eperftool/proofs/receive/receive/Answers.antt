@@ -1,7 +1,7 @@
 use Rattle.std.proofs.Common.{ℕ, [], sym, ap, subst}
 use Rattle.fec_session.specs.Session.{AreNew}
 use Rattle.packet_file.specs.Header.{header_bytes}
-use Rattle.eperftool.specs.Receiving.{code_of}
+use Rattle.eperftool.specs.Receiving.{matrix_at}
 use Rattle.eperftool.specs.DecodeRun.{FailsAtPackets, RefusesDecode}
 use Rattle.eperftool.specs.Outside.{Hearing, Stream, hearing, stream}
 use Rattle.eperftool.specs.Told.{StandsAt}
@@ -29,7 +29,7 @@ returns-in-Ok-take_packets-clause-received g c =
     c.in-Ok-new.ensures.cores in
     let (packets, stands, over, cores, counted) = c.in-Ok-take_packets.ensures.packets in
     record {
-      code = code_of r.cores;
+      code = matrix_at r.cores;
       packets = packets;
       mid = left c.open.new.input;
       opens = record {
@@ -37,7 +37,7 @@ returns-in-Ok-take_packets-clause-received g c =
         codes = new_codes h c.args.draws codes r.cores c.in-Ok.ensures.codes new;
         taken = c.in-Ok.ensures.bytes;
       };
-      stands = subst (λ t. StandsAt h (code_of r.cores) c.args.early c.args.most
+      stands = subst (λ t. StandsAt h (matrix_at r.cores) c.args.early c.args.most
           (left c.open.new.input) (left c.take_packets.new.input) t
           (told c.take_packets.new.receiver.watch) packets []) (ap told c.in-Ok-new.ensures.watch)
           stands;
@@ -75,7 +75,7 @@ returns-clause-refusal g c =
     let h = c.in-Ok.opened.header in
     let codes = c.in-Ok.opened.codes.items in
     let r = c.in-Ok-new.receiver in
-    let code = code_of r.cores in
+    let code = matrix_at r.cores in
     let new = subst (λ (n : ℕ). AreNew codes n r.cores) c.symbol_len.ensures.value
     c.in-Ok-new.ensures.cores in
     let input : Stream = stream (left c.args.input.now) (faults c.args.input.now) in

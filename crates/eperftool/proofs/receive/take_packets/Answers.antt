@@ -1,7 +1,7 @@
 use Rattle.std.proofs.Common.{rules, ℕ, ◌≡◌, true, [], ◌∷◌, ◌++◌, Ok, Err, Result, IfErr, inl, inr}
 use Rattle.std.proofs.Common.{refl, sym, ap, arith, length-append, subst}
 use Rattle.fec_session.specs.Session.{Receiving}
-use Rattle.eperftool.specs.Receiving.{AreCores, code_of}
+use Rattle.eperftool.specs.Receiving.{AreCores, matrix_at}
 use Rattle.eperftool.specs.DecodeRun.{FailsAtPackets}
 use Rattle.eperftool.specs.Outside.{hearing, stream}
 use Rattle.eperftool.specs.Told.{IsWhole}
@@ -19,7 +19,7 @@ loop-index-init g c =
       long = search rules;
       stands = (
         [],
-        stands_none c.args.header.now (code_of r.cores) c.args.early c.args.most
+        stands_none c.args.header.now (matrix_at r.cores) c.args.early c.args.most
             (left c.args.input.now) (g.W.Watch.told r.watch),
         c.requires.cores,
         refl,
@@ -33,13 +33,13 @@ loop-index-init g c =
 pub take_packet-requires-clause-cores : goal.take_packet-requires-clause-cores
 take_packet-requires-clause-cores g c =
     let (packets, stands, cores, counted) = c.loop-index.invariant.stands in
-    (code_of c.args.receiver.now.cores, packets, cores)
+    (matrix_at c.args.receiver.now.cores, packets, cores)
 
 pub returns-then-is_done-clause-packets : goal.returns-then-is_done-clause-packets
 returns-then-is_done-clause-packets g c =
     let (packets, stands, cores, counted) = c.loop-index.invariant.stands in
     let done = c.is_done.ensures.done c.if-is_done.true in
-    let code = code_of c.args.receiver.now.cores in (
+    let code = matrix_at c.args.receiver.now.cores in (
       packets,
       stands,
       inr (
@@ -53,8 +53,8 @@ returns-then-is_done-clause-packets g c =
 pub returns-then-is_done-clause-taken : goal.returns-then-is_done-clause-taken
 returns-then-is_done-clause-taken g c =
     let (packets, stands, cores, counted) = c.loop-index.invariant.stands in
-    taken_some c.args.header.now (code_of c.args.receiver.now.cores) c.args.early c.args.most _ _ _
-    _ packets [] stands
+    taken_some c.args.header.now (matrix_at c.args.receiver.now.cores) c.args.early c.args.most
+    _ _ _ _ packets [] stands
 
 pub returns-in_err-take_packet-clause-refusal : goal.returns-in_err-take_packet-clause-refusal
 returns-in_err-take_packet-clause-refusal g c =
@@ -66,7 +66,7 @@ returns-in_err-take_packet-clause-refusal g c =
     let r = c.args.receiver.now in
     let mid = c.loop-index.receiver in
     let now = c.take_packet.new.receiver in
-    let code = code_of r.cores in
+    let code = matrix_at r.cores in
     let (packets, stands, cores, counted) = c.loop-index.invariant.stands in
     let refusal = c.in_err-take_packet.field-0.0 in
     let same : c.from_residual.result ≡ Err refusal = search rules in
@@ -89,8 +89,8 @@ returns-in_err-take_packet-clause-refusal g c =
 pub returns-in_err-take_packet-clause-taken : goal.returns-in_err-take_packet-clause-taken
 returns-in_err-take_packet-clause-taken g c =
     let (packets, stands, cores, counted) = c.loop-index.invariant.stands in
-    some_behind _ _ _ (taken_some c.args.header.now (code_of c.args.receiver.now.cores) c.args.early
-    c.args.most _ _ _ _ packets [] stands) c.in_err-take_packet.ensures.taken
+    some_behind _ _ _ (taken_some c.args.header.now (matrix_at c.args.receiver.now.cores)
+    c.args.early c.args.most _ _ _ _ packets [] stands) c.in_err-take_packet.ensures.taken
 
 pub returns-then-not-branch-clause-packets : goal.returns-then-not-branch-clause-packets
 returns-then-not-branch-clause-packets g c =
@@ -98,7 +98,7 @@ returns-then-not-branch-clause-packets g c =
     let told = g.W.Watch.told in
     let h = c.args.header.now in
     let r = c.args.receiver.now in
-    let code = code_of r.cores in
+    let code = matrix_at r.cores in
     let (packets, stands, cores, counted) = c.loop-index.invariant.stands in
     let (nothing, ended, same) = c.in_ok-take_packet.ensures.end (ap Ok c.if-not-branch.true) in (
       packets,
@@ -119,7 +119,7 @@ loop-index-preserved g c =
     let r = c.args.receiver.now in
     let mid = c.loop-index.receiver in
     let now = c.take_packet.new.receiver in
-    let code = code_of r.cores in
+    let code = matrix_at r.cores in
     let (packets, stands, cores, counted) = c.loop-index.invariant.stands in
     let (p, takes, grown) = c.in_ok-take_packet.ensures.packet (ap Ok c.if-not-branch.false) in
     let few = c.in_ok-take_packet.ensures.within (ap Ok c.if-not-branch.false) in
@@ -148,5 +148,5 @@ pub returns-then-not-branch-clause-taken : goal.returns-then-not-branch-clause-t
 returns-then-not-branch-clause-taken g c =
     let (packets, stands, cores, counted) = c.loop-index.invariant.stands in
     let end = c.in_ok-take_packet.ensures.end (ap Ok c.if-not-branch.true) in
-    some_behind _ _ _ (taken_some c.args.header.now (code_of c.args.receiver.now.cores) c.args.early
-    c.args.most _ _ _ _ packets [] stands) ([], end.0)
+    some_behind _ _ _ (taken_some c.args.header.now (matrix_at c.args.receiver.now.cores)
+    c.args.early c.args.most _ _ _ _ packets [] stands) ([], end.0)

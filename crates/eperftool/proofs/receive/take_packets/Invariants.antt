@@ -1,6 +1,6 @@
 use Rattle.std.proofs.Common.{◌≡◌, ◌≤◌, ◌+◌, List, [], length}
 use Rattle.packet_file.specs.Packets.{Packet}
-use Rattle.eperftool.specs.Receiving.{AreCores, code_of}
+use Rattle.eperftool.specs.Receiving.{AreCores, matrix_at}
 use Rattle.eperftool.specs.Told.{StandsAt}
 use Rattle.eperftool.proofs.receive.take_packets.Given as goal
 
@@ -8,10 +8,10 @@ use Rattle.eperftool.proofs.receive.take_packets.Given as goal
 abbrev pub invariant-loop-index : goal.invariant-loop-index
 invariant-loop-index g l = record {
   long : length l.piece ≡ 4 + l.header.oti.symbol;
-  stands : (packets : List Packet) × StandsAt l.header (code_of l.initial.receiver.cores) l.early
+  stands : (packets : List Packet) × StandsAt l.header (matrix_at l.initial.receiver.cores) l.early
       l.most (g.S.Source.left l.initial.input) (g.S.Source.left l.input)
       (g.W.Watch.told l.initial.receiver.watch) (g.W.Watch.told l.receiver.watch) packets []
-      × AreCores l.header (code_of l.initial.receiver.cores) packets l.receiver.cores
+      × AreCores l.header (matrix_at l.initial.receiver.cores) packets l.receiver.cores
       × (length packets ≡ l.index);
   few : l.index ≤ l.most;
   later : g.S.Source.faults l.initial.input ≤ g.S.Source.faults l.input;

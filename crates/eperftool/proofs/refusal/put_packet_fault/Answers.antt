@@ -1,8 +1,7 @@
 use Rattle.std.proofs.Common.{◌++◌, decimal}
 use Rattle.std.specs.Prelude.{codes}
+use Rattle.fec_base.proofs.Cuts.{cut_between, cut_longer, cut_third, on_err, written_third}
 use Rattle.eperftool.specs.Refusals.{numbered}
-use Rattle.eperftool.proofs.Passing.{cut_longer, on_err}
-use Rattle.eperftool.proofs.Reports.{cut_between, cut_third, written_third}
 use Rattle.eperftool.proofs.refusal.put_packet_fault.Goals as goal
 
 pub returns-in_err-put_text-clause-cut : goal.returns-in_err-put_text-clause-cut

@@ -1,7 +1,6 @@
 use Rattle.std.proofs.Common.{decimal}
 use Rattle.std.specs.Prelude.{codes}
-use Rattle.eperftool.proofs.Passing.{on_err}
-use Rattle.eperftool.proofs.Reports.{cut_between, cut_third}
+use Rattle.fec_base.proofs.Cuts.{cut_between, cut_third, on_err}
 use Rattle.eperftool.proofs.report.put_numbered.Goals as goal
 
 pub returns-in_err-put_number-clause-cut : goal.returns-in_err-put_number-clause-cut

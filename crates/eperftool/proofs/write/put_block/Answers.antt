@@ -1,9 +1,9 @@
 use Rattle.std.proofs.Common.{◌++◌, ◌<◌, List, [], ℕ, length, subst, arith, rules}
 use Rattle.fec_base.specs.Bytes.{AppendsFront}
 use Rattle.packet_file.specs.Packets.{packet_bytes}
+use Rattle.fec_base.proofs.Cuts.{on_err}
 use Rattle.eperftool.specs.File.{block_packets, identifier}
 use Rattle.eperftool.specs.Staged.{PassesOn}
-use Rattle.eperftool.proofs.Passing.{on_err}
 use Rattle.eperftool.proofs.PacketRuns.{pieces_pass, pieces_cut}
 use Rattle.eperftool.proofs.write.put_block.Goals as goal
 

@@ -1,13 +1,13 @@
 use Rattle.std.proofs.Common.{◌≡◌, ◌≤◌, ℕ, List, take}
 use Rattle.eperftool.specs.File.{packets}
-use Rattle.eperftool.specs.Made.{AreWords}
+use Rattle.eperftool.specs.Made.{AreCodewords}
 use Rattle.eperftool.specs.Staged.{PassesOn}
 use Rattle.eperftool.proofs.write.put_blocks.Given as goal
 
 abbrev pub invariant-loop-block : goal.invariant-loop-block
 invariant-loop-block g l = record {
   room : l.staging.room ≡ 262144;
-  passed : (words : List (List (List ℕ))) → AreWords l.header l.codes l.object words
+  passed : (words : List (List (List ℕ))) → AreCodewords l.header l.codes l.object words
       → PassesOn (g.K.Sink.held l.initial.sink) (g.K.Sink.held l.sink) l.initial.staging.bytes
       l.staging.bytes (packets (take l.block words));
   later : g.K.Sink.faults l.initial.sink ≤ g.K.Sink.faults l.sink;

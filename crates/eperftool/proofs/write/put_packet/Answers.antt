@@ -2,8 +2,9 @@ use Rattle.std.proofs.Common.{◌++◌, subst}
 use Rattle.fec_base.specs.Bytes.{AppendsFront}
 use Rattle.oti_fields.specs.Fields.{id_bytes}
 use Rattle.packet_file.specs.Packets.{packet_bytes}
+use Rattle.fec_base.proofs.Cuts.{cut_longer, on_err}
 use Rattle.eperftool.specs.Staged.{PassesOn}
-use Rattle.eperftool.proofs.Passing.{passes_after, cut_after, cut_longer, on_err}
+use Rattle.eperftool.proofs.Passing.{passes_after, cut_after}
 use Rattle.eperftool.proofs.write.put_packet.Goals as goal
 
 pub returns-in_err-put-2-clause-cut : goal.returns-in_err-put-2-clause-cut
