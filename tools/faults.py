@@ -331,6 +331,22 @@ def refused_memory(runs):
                 yield Case(run, f"request {first}{words} refused", give, right)
 
 
+def long_objects(_):
+    """An object is longer than it may be: it is refused, and no more of it is read than shows that."""
+    run, right = Run("a long object", ["encode"], b""), Answer(7, b"", b"fault: limit length\n")
+    for size in (268_435_457, 1 << 30):
+        yield Case(run, f"an object of {size} bytes", partial(over_zeros, run, size), (right, True))
+
+
+def over_zeros(run, size):
+    """The answer over a file of so many zero bytes, and whether at most a piece and a buffer more were read of it than an
+    object may have."""
+    with tempfile.TemporaryFile() as file:
+        file.truncate(size)
+        got = answer(run, given=os.dup(file.fileno()))
+        return got, file.tell() <= 268_435_456 + 65_536 + 262_144
+
+
 def handed_back(_):
     """Each request for memory of the example of the library is refused in turn. Where that hands its session back, it
     asks once more, and then prints all that it prints where nothing is refused."""
@@ -358,6 +374,7 @@ KINDS = {
     "slow": slow_pipes,
     "memory": little_memory,
     "refused": refused_memory,
+    "long": long_objects,
     "back": handed_back,
 }
 

@@ -3,14 +3,17 @@
 
     fuzz.py [CASES [SEED]]
 
-First come `perf` by hand and the packet files of tools/vectors, and then random cases.
+First come runs that were worked out by hand and the packet files of tools/vectors, and then random cases, on all
+processors: which cases they are goes by the seed alone.
 
 Each case is an `encode` of a random object with random words, and a `decode`, a `lose` and a `show` of its packet
 file after packets were lost, repeated, shuffled, changed or cut, or header bytes were changed; and a `perf` with random
 words. Output, report and status have to be those of the second reading. A difference is printed with its words and its
 input in hexadecimal, and ends the run with status 1. EPERFTOOL names another program than build/eperftool.
 """
+import collections
 import hashlib
+import multiprocessing
 import os
 import pathlib
 import random
@@ -21,6 +24,13 @@ import second_reading as reading
 from second_reading import Ends, Header
 
 PROGRAM = os.environ.get("EPERFTOOL", pathlib.Path(__file__).resolve().parent.parent / "build" / "eperftool")
+
+# A header that was changed may ask for blocks of many thousand symbols, over which the second reading takes hours. Files
+# of more symbols than these are shown and thinned, and not decoded.
+MOST_DECODED = 400
+
+# How many cases one process takes at a time.
+AT_ONCE = 50
 
 # Of `perf` with the code k = 3, n = 7, N1 = 3, seed 1 and symbols of one byte: further words, and the last two lines,
 # which were worked out by hand.
@@ -136,14 +146,19 @@ def expected(call, *given, **named):
         return end.status, end.output, end.report
 
 
+class Difference(Exception):
+    """The program and the second reading differ."""
+
+
 def check(words, data, wanted, seen):
     got = program(words, data)
-    seen[got[0]] = seen.get(got[0], 0) + 1
+    seen[got[0]] += 1
     if got != wanted:
-        print(f"words:  {' '.join(words)}\ninput:  {data.hex()}")
-        print(f"wanted: status {wanted[0]}, {wanted[2]!r}, {wanted[1].hex()}")
-        print(f"got:    status {got[0]}, {got[2]!r}, {got[1].hex()}")
-        sys.exit(1)
+        raise Difference(
+            f"words:  {' '.join(words)}\ninput:  {data.hex()}\n"
+            f"wanted: status {wanted[0]}, {wanted[2]!r}, {wanted[1].hex()}\n"
+            f"got:    status {got[0]}, {got[2]!r}, {got[1].hex()}"
+        )
     return got
 
 
@@ -158,6 +173,15 @@ def check_perf_by_hand(seen):
         check(["perf", *words], b"", wanted, seen)
 
 
+def check_extra_columns_by_hand(seen):
+    """The codeword of a staircase whose rows gain both extra columns, worked out in docs/CODES.md."""
+    words = ["encode", "--symbol=1", "--block=2", "--max-n=9"]
+    symbols = bytes.fromhex("01 02 03 00 03 00 03 00 03")
+    packets = b"".join(esi.to_bytes(4, "big") + symbols[esi : esi + 1] for esi in range(9))
+    wanted = (0, Header(3, 2, 1, 0, 1, 2, 9, 1).spelled() + packets, "blocks 1\npackets 9\n")
+    check(words, b"\x01\x02", wanted, seen)
+
+
 def check_vectors(seen):
     """The packet files of tools/vectors/encodes.txt, which a second implementation computed."""
     for line in (pathlib.Path(__file__).parent / "vectors" / "encodes.txt").read_text().splitlines():
@@ -166,13 +190,21 @@ def check_vectors(seen):
         words, size, digest, length, report = [part.strip() for part in line.split("|")]
         words = [] if words == "(none)" else words.split()
         got = program(["encode", *words], bytes((i * 7 + i // 256) % 256 for i in range(int(size))))
-        seen[got[0]] = seen.get(got[0], 0) + 1
+        seen[got[0]] += 1
         if (hashlib.sha256(got[1]).hexdigest(), len(got[1]), got[2].split("\n")) != (
             digest,
             int(length),
             [*report.split(", "), ""],
         ):
             sys.exit(f"encode {' '.join(words)}: another packet file than that of tools/vectors/encodes.txt")
+
+
+def symbols_of(file):
+    """How many encoding symbols the blocks of a packet file have, where its header has no fault."""
+    try:
+        return sum(reading.read_header(file).counts)
+    except Ends:
+        return 0
 
 
 def check_file(chance, file, symbol, seen):
@@ -187,7 +219,8 @@ def check_file(chance, file, symbol, seen):
     if chance.random() < 0.05:
         limit = chance.randint(0, 300)
         options.append(f"--draws={limit}")
-    check(options, file, expected(reading.decode, file, limit, early, most), seen)
+    if symbols_of(file) <= MOST_DECODED:
+        check(options, file, expected(reading.decode, file, limit, early, most), seen)
     most, loss = chance.randint(0, 60), random_loss(chance)
     start = chance.choice([1, chance.randint(1, 2147483646)])
     options = [f"--loss={loss}", f"--seed={start}", f"--packets={most}"]
@@ -195,13 +228,10 @@ def check_file(chance, file, symbol, seen):
     check(["show", f"--packets={most}"], file, expected(reading.show, file, most), seen)
 
 
-def main():
-    cases = int(sys.argv[1]) if len(sys.argv) > 1 else 2000
-    seed = int(sys.argv[2]) if len(sys.argv) > 2 else random.randrange(2**32)
-    chance, seen = random.Random(seed), {}
-    check_perf_by_hand(seen)
-    check_vectors(seen)
-    for _ in range(cases):
+def check_cases(seed, first, count):
+    """Some cases, as their seed and the number of the first decide. Says how many runs ended with each status."""
+    chance, seen = random.Random(f"{seed} {first}"), collections.Counter()
+    for _ in range(count):
         words, limit, header_of = random_words(chance)
         data = chance.randbytes(chance.choice([0, 1, chance.randint(1, 60), chance.randint(1, 300)]))
         header = header_of(len(data))
@@ -212,8 +242,25 @@ def main():
             check_file(chance, file, header.symbol, seen)
         words, given = random_perf(chance)
         check(["perf", *words], b"", expected(reading.perf, **given), seen)
+    return seen
+
+
+def main():
+    cases = int(sys.argv[1]) if len(sys.argv) > 1 else 2000
+    seed = int(sys.argv[2]) if len(sys.argv) > 2 else random.randrange(2**32)
+    seen = collections.Counter()
+    parts = [(seed, first, min(AT_ONCE, cases - first)) for first in range(0, cases, AT_ONCE)]
+    try:
+        check_perf_by_hand(seen)
+        check_extra_columns_by_hand(seen)
+        check_vectors(seen)
+        with multiprocessing.Pool() as processes:
+            for of_part in processes.starmap(check_cases, parts, chunksize=1):
+                seen += of_part
+    except Difference as difference:
+        sys.exit(f"{difference}\nseed:   {seed}")
     statuses = ", ".join(f"{count} of status {status}" for status, count in sorted(seen.items()))
-    print(f"{sum(seen.values())} runs from seed {seed}, no difference: {statuses}")
+    print(f"{seen.total()} runs from seed {seed}, no difference: {statuses}")
 
 
 if __name__ == "__main__":
