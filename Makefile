@@ -64,8 +64,12 @@ CASES ?= 2000
 fuzz: build/eperftool
 	@python3 tools/fuzz.py $(CASES) $(SEED)
 
+#   make pages              runs the commands of README.md and docs/GUIDE.md, and compares what they print
+pages: build/eperftool
+	@python3 tools/pages.py
+
 #   make faults             meets the built program with faults of the system: reads, writes, pipes, files, memory
 faults: build/eperftool build/one_block
 	@python3 tools/faults.py
 
-.PHONY: help demo datagrams test promises trusted fuzz faults plots build install bench
+.PHONY: help demo datagrams test promises trusted fuzz pages faults plots build install bench
