@@ -19,15 +19,15 @@ fn counted(alloc: Global, len: u32) -> Result<Vec<u8>, Fail> {
 fn an_object_of_three_blocks(rt: HostRuntime) -> Result<(), Fail> {
     let alloc = rt.alloc();
     let object = counted(alloc, 1000)?;
-    let left = run_over(alloc, &THREE_BLOCKS, &object, None, 2000, 100)?;
-    assert_eq!(rt; left.status, Status::Done);
-    assert_eq!(rt; left.report.bytes(), b"blocks 3\npackets 14\n".as_slice());
+    let left = run_over(alloc, &THREE_BLOCKS, &object)?;
+    assert!(rt; left.status == Status::Done);
+    assert!(rt; left.report.bytes() == b"blocks 3\npackets 14\n".as_slice());
     let file = left.output.bytes();
-    assert_eq!(rt; file.len(), 1482);
+    assert!(rt; file.len() == 1482);
     // Six packets of the first block, and four of each other one.
-    assert_eq!(rt; &file[546..550], [0, 0, 0, 5].as_slice());
-    assert_eq!(rt; &file[650..654], [0, 0x10, 0, 0].as_slice());
-    assert_eq!(rt; &file[1378..1382], [0, 0x20, 0, 3].as_slice());
+    assert!(rt; &file[546..550] == [0, 0, 0, 5].as_slice());
+    assert!(rt; &file[650..654] == [0, 0x10, 0, 0].as_slice());
+    assert!(rt; &file[1378..1382] == [0, 0x20, 0, 3].as_slice());
     let peeled = "block 0 peeled\nblock 1 peeled\nblock 2 peeled\npackets 14\n";
     check(&rt, alloc, &["decode"], file, Status::Done, &object, peeled)?;
     Ok(())
@@ -55,7 +55,7 @@ fn turned(alloc: Global, file: &[u8], from: usize, to: usize) -> Result<Vec<u8>,
 fn one_block_of_three_is_undetermined(rt: HostRuntime) -> Result<(), Fail> {
     let alloc = rt.alloc();
     let object = counted(alloc, 1000)?;
-    let left = run_over(alloc, &THREE_BLOCKS, &object, None, 2000, 100)?;
+    let left = run_over(alloc, &THREE_BLOCKS, &object)?;
     // Two source symbols of the second block are lost.
     let file = turned(alloc, left.output.bytes(), 6, 8)?;
     let open = "block 0 peeled\nblock 1 undetermined 0 1\nblock 2 peeled\npackets 12\n";

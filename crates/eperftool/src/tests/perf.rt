@@ -1,5 +1,5 @@
 // Runs of a decoder under losses, and their lines.
-use super::run_over;
+use super::{Left, Outside, ample, check_left, run_in, run_over};
 use loss_patterns::read_number;
 use std::alloc::Global;
 use std::process::Abort;
@@ -8,8 +8,17 @@ use tool_base::Status;
 
 const CODE_LINE: &str = "code staircase k 3 n 7 entries 16 draws 12\n";
 
+// Runs the words over an input whose first read would be a fault: a `perf` reads nothing.
+fn run_unread(alloc: Global, words: &[&str]) -> Result<Left, Fail> {
+    let outside = Outside {
+        stop: Some(0),
+        ..ample(70)
+    };
+    run_in(alloc, words, b"0", outside)
+}
+
 // A `perf` of the code of three and seven, sent in this order under this loss, writes these lines
-// behind that of the code. It reads nothing: the first read of this input would be a fault.
+// behind that of the code.
 fn check_runs(
     rt: &impl Abort,
     alloc: Global,
@@ -27,11 +36,9 @@ fn check_runs(
         "--loss",
         loss,
     ];
-    let left = run_over(alloc, &words, b"0", Some(0), 300, 100)?;
+    let left = run_unread(alloc, &words)?;
     let wanted = format!(in alloc; "{CODE_LINE}{lines}")?;
-    assert_eq!(rt; left.output.bytes(), wanted.as_bytes());
-    assert_eq!(rt; left.report.bytes().len(), 0);
-    assert_eq!(rt; left.status, Status::Done);
+    check_left(rt, &left, Status::Done, wanted.as_bytes(), &[]);
     Ok(())
 }
 
@@ -52,35 +59,27 @@ fn runs_peel_or_are_solved_or_stay_undetermined(rt: HostRuntime) -> Result<(), F
 #[test]
 fn runs_that_are_refused_write_nothing(rt: HostRuntime) -> Result<(), Fail> {
     let alloc = rt.alloc();
-    let large = ["perf", "--k=65536", "--symbol=4097"];
-    let left = run_over(alloc, &large, b"0", Some(0), 300, 100)?;
-    assert_eq!(rt;
-        left.report.bytes(),
-        b"fault: limit block-bytes\n".as_slice()
-    );
-    assert_eq!(rt; left.status, Status::Limit);
-    assert_eq!(rt; left.output.bytes().len(), 0);
-    let over = ["perf", "--k=3", "--n=7", "--draws=11"];
-    let left = run_over(alloc, &over, b"0", Some(0), 300, 100)?;
-    assert_eq!(rt; left.report.bytes(), b"fault: draws block 0\n".as_slice());
-    assert_eq!(rt; left.status, Status::Draws);
-    assert_eq!(rt; left.output.bytes().len(), 0);
+    let large = run_unread(alloc, &["perf", "--k=65536", "--symbol=4097"])?;
+    let limit = "fault: limit block-bytes\n";
+    check_left(&rt, &large, Status::Limit, &[], limit.as_bytes());
+    let over = run_unread(alloc, &["perf", "--k=3", "--n=7", "--draws=11"])?;
+    check_left(&rt, &over, Status::Draws, &[], b"fault: draws block 0\n");
     Ok(())
 }
 
 #[test]
 fn the_same_words_write_the_same_lines(rt: HostRuntime) -> Result<(), Fail> {
-    let first = run_over(rt.alloc(), &["perf", "--k=300"], b"", None, 300, 100)?;
-    let second = run_over(rt.alloc(), &["perf", "--k=300"], b"", None, 300, 100)?;
-    assert_eq!(rt; first.status, Status::Done);
-    assert_eq!(rt; first.output.bytes(), second.output.bytes());
+    let first = run_over(rt.alloc(), &["perf", "--k=300"], b"")?;
+    let second = run_over(rt.alloc(), &["perf", "--k=300"], b"")?;
+    assert!(rt; first.status == Status::Done);
+    assert!(rt; first.output.bytes() == second.output.bytes());
     let lines = first
         .output
         .bytes()
         .iter()
         .filter(|byte| **byte == b'\n')
         .count();
-    assert_eq!(rt; lines, 3);
+    assert!(rt; lines == 3);
     Ok(())
 }
 
@@ -104,14 +103,14 @@ fn a_hundred_runs_of_a_large_code_peel(rt: HostRuntime) -> Result<(), Fail> {
         "--symbol=16",
         "--runs=100",
     ];
-    let left = run_over(alloc, &words, b"", None, 10_000, 100)?;
-    assert_eq!(rt; left.status, Status::Done);
+    let left = run_over(alloc, &words, b"")?;
+    assert!(rt; left.status == Status::Done);
     let text = str::from_utf8(left.output.bytes())?;
     let (code, mut rest) = text.split_once('\n').ok_or("no line")?;
     assert!(rt; code.starts_with("code staircase k 20000 n 30000 entries "));
     for run in 1..101 {
         rest = after_run(&rt, alloc, run, rest)?;
     }
-    assert_eq!(rt; rest, "runs 100 peeled 100 solved 0 undetermined 0\n");
+    assert!(rt; rest == "runs 100 peeled 100 solved 0 undetermined 0\n");
     Ok(())
 }

@@ -1,14 +1,15 @@
-// Each short input, each fault of a header and of its fields, and each limit of a file's sizes.
-use super::{GRID_FILE, STAIRCASE_FILE, check};
-use Damage::{Cut, Grid, Staircase};
+// Each fault of a header, of its fields and of a packet, each limit of a file's sizes, and words
+// that mean no command.
+use super::{GRID_FILE, Outside, STAIRCASE_FILE, ample, check, check_left, run_in};
+use Damage::{Grid, Packets, Staircase};
 use std::alloc::Global;
 use std::test::Fail;
 use tool_base::Status::{self, Limit, Malformed};
 
 // What was done to a file.
 enum Damage {
-    // The staircase's file has this many bytes left.
-    Cut(usize),
+    // Behind the header of the staircase's file stand these bytes.
+    Packets(&'static [u8]),
     // From this place on, the staircase's file has these bytes.
     Staircase(usize, &'static [u8]),
     // From this place on, the grid's file has these bytes.
@@ -18,17 +19,17 @@ enum Damage {
 // The bytes of a file to which this was done.
 fn damaged(alloc: Global, damage: &Damage) -> Result<Vec<u8>, Fail> {
     match damage {
-        Cut(len) => front(alloc, &STAIRCASE_FILE, *len),
+        Packets(bytes) => behind_header(alloc, bytes),
         Staircase(place, bytes) => with_bytes(alloc, &STAIRCASE_FILE, *place, bytes),
         Grid(place, bytes) => with_bytes(alloc, &GRID_FILE, *place, bytes),
     }
 }
 
-// The file's first bytes, so many.
-fn front(alloc: Global, file: &[u8], len: usize) -> Result<Vec<u8>, Fail> {
-    let mut kept = Vec::from_slice(alloc, file)?;
-    kept.truncate(len);
-    Ok(kept)
+// The header of the staircase's file, and these bytes.
+fn behind_header(alloc: Global, bytes: &[u8]) -> Result<Vec<u8>, Fail> {
+    let mut file = Vec::from_slice(alloc, &STAIRCASE_FILE[..26])?;
+    file.extend_from_slice(bytes)?;
+    Ok(file)
 }
 
 // The file with other bytes from this place on.
@@ -40,38 +41,32 @@ fn with_bytes(alloc: Global, file: &[u8], place: usize, bytes: &[u8]) -> Result<
     Ok(changed)
 }
 
-const REFUSED: [(Damage, Status, &str); 51] = [
-    (Cut(0), Malformed, "fault: header short 0\n"),
-    (Cut(1), Malformed, "fault: header short 1\n"),
-    (Cut(2), Malformed, "fault: header short 2\n"),
-    (Cut(3), Malformed, "fault: header short 3\n"),
-    (Cut(4), Malformed, "fault: header short 4\n"),
-    (Cut(5), Malformed, "fault: header short 5\n"),
-    (Cut(6), Malformed, "fault: header short 6\n"),
-    (Cut(7), Malformed, "fault: header short 7\n"),
-    (Cut(8), Malformed, "fault: header short 8\n"),
-    (Cut(9), Malformed, "fault: header short 9\n"),
-    (Cut(10), Malformed, "fault: header short 10\n"),
-    (Cut(11), Malformed, "fault: header short 11\n"),
-    (Cut(12), Malformed, "fault: header short 12\n"),
-    (Cut(13), Malformed, "fault: header short 13\n"),
-    (Cut(14), Malformed, "fault: header short 14\n"),
-    (Cut(15), Malformed, "fault: header short 15\n"),
-    (Cut(16), Malformed, "fault: header short 16\n"),
-    (Cut(17), Malformed, "fault: header short 17\n"),
-    (Cut(18), Malformed, "fault: header short 18\n"),
-    (Cut(19), Malformed, "fault: header short 19\n"),
-    (Cut(20), Malformed, "fault: header short 20\n"),
-    (Cut(21), Malformed, "fault: header short 21\n"),
-    (Cut(22), Malformed, "fault: header short 22\n"),
-    (Cut(23), Malformed, "fault: header short 23\n"),
-    (Cut(24), Malformed, "fault: header short 24\n"),
-    (Cut(25), Malformed, "fault: header short 25\n"),
-    (Cut(27), Malformed, "fault: packet 0 short 1\n"),
-    (Cut(28), Malformed, "fault: packet 0 short 2\n"),
-    (Cut(29), Malformed, "fault: packet 0 short 3\n"),
-    (Cut(30), Malformed, "fault: packet 0 short 4\n"),
-    (Cut(60), Malformed, "fault: packet 6 short 4\n"),
+const REFUSED: [(Damage, Status, &str); 25] = [
+    (
+        Packets(b"\0\x10\0\0\x01"),
+        Malformed,
+        "fault: packet 0 block 1\n",
+    ),
+    (
+        Packets(b"\0\x10\0\0"),
+        Malformed,
+        "fault: packet 0 short 4\n",
+    ),
+    (
+        Packets(b"\0\0\0\x07\x01"),
+        Malformed,
+        "fault: packet 0 symbol 7\n",
+    ),
+    (
+        Packets(b"\0\0\0\0\x01\0\0\0\x01\x02\0\0"),
+        Malformed,
+        "fault: packet 2 short 2\n",
+    ),
+    (
+        Packets(b"\0\0\0\0\x01\0\0\0\x09\x02\0\0"),
+        Malformed,
+        "fault: packet 1 symbol 9\n",
+    ),
     (Staircase(0, b"P"), Malformed, "fault: header magic\n"),
     (
         Staircase(4, &[2, 5]),
@@ -143,6 +138,41 @@ fn the_first_fault_of_a_file_is_reported(rt: HostRuntime) -> Result<(), Fail> {
     for (damage, status, report) in &REFUSED {
         let file = damaged(rt.alloc(), damage)?;
         check(&rt, rt.alloc(), &["decode"], &file, *status, &[], report)?;
+    }
+    Ok(())
+}
+
+#[test]
+fn words_that_mean_no_command_are_usage(rt: HostRuntime) -> Result<(), Fail> {
+    let usage = "fault: usage\n\
+        usage: eperftool encode|decode|lose|show|perf [--name=value ...]\n";
+    let cases: [&[&str]; 17] = [
+        &[],
+        &["pack"],
+        &["encode", "--symbol=0"],
+        &["encode", "--symbol=08"],
+        &["encode", "--seed=1", "--seed=1"],
+        &["encode", "--seed=1", "--seed", "1"],
+        &["encode", "--width=3"],
+        &["encode", "--codec=2d", "--n1=3"],
+        &["encode", "--codec=2d", "--width=256", "--block=65026"],
+        &["encode", "--block=7", "--max-n=6"],
+        &["encode", "--sym=1"],
+        &["encode", "--help"],
+        &["decode", "--"],
+        &["decode", "x"],
+        &["decode", "--early", "--packets=3"],
+        &["perf", "--k=3", "--k=3"],
+        &["perf", "--k=8", "--n=7"],
+    ];
+    for words in cases {
+        // The first read of this input would be a fault.
+        let outside = Outside {
+            stop: Some(0),
+            ..ample(70)
+        };
+        let left = run_in(rt.alloc(), words, b"01234", outside)?;
+        check_left(&rt, &left, Status::Usage, &[], usage.as_bytes());
     }
     Ok(())
 }
