@@ -8,6 +8,3 @@ mod plan;
 
 pub use laws::blocks_are_sized;
 pub use plan::{Plan, TooManyBlocks, ldpc_n};
-
-#[cfg(test)]
-mod tests;

@@ -21,6 +21,3 @@ pub use finding::find;
 pub use laws::{closed_rows_show_that_nothing_fits, each_late_row_has_one_reduced_set};
 pub use proof::ClashProof;
 pub use row_set::RowSet;
-
-#[cfg(test)]
-mod tests;

@@ -15,4 +15,3 @@ pub mod Outcomes
 pub mod Pairs
 pub mod NullPairs
 pub mod Sources
-pub mod SmallBlocks

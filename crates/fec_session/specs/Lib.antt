@@ -15,4 +15,3 @@ pub mod Laws
 pub mod Residual
 pub mod Kept
 pub mod Whole
-pub mod Small

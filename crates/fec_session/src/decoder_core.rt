@@ -19,9 +19,6 @@ use sparse_rows::Code;
 use std::alloc::Global;
 use std::marker::Model;
 
-#[cfg(test)]
-mod tests;
-
 /// The decoder of one source block. It takes encoding symbols in any order and any number, and
 /// rebuilds by peeling each symbol that is the only unknown one of some row. It has room for the n
 /// symbols of the code, of `len` bytes each, from the start: no call but `new`, `residue` and

@@ -31,8 +31,3 @@ pub use receiver::{Finished, Receiver};
 pub use residue::Residue;
 pub use session::{Session, SessionVerdict, WatchFault};
 pub use verdict::{SourceBlock, Verdict};
-
-#[cfg(test)]
-mod fixtures;
-#[cfg(test)]
-mod tests;

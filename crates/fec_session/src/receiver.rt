@@ -19,9 +19,6 @@ use sparse_rows::Code;
 use std::alloc::Global;
 use std::marker::Model;
 
-#[cfg(test)]
-mod tests;
-
 /// The decoders of an object's source blocks, and a watch that is told of each symbol that they
 /// rebuild, as soon as the symbol that makes it known has arrived. It has the memory for all
 /// arrivals from the start.

@@ -19,9 +19,6 @@ use std::error::Error;
 use std::fmt;
 use std::marker::Model;
 
-#[cfg(test)]
-mod tests;
-
 /// The watch failed while it was told of what an arrival rebuilt. The arrival is kept. The first
 /// `told` of the symbols that it rebuilt were told, which aren't all, and the others never will be.
 #[derive(Clone, Copy, Debug, PartialEq, Eq)]

@@ -11,6 +11,3 @@ mod null_words;
 
 pub use laws::shorter_prefixes_have_more_null_words;
 pub use least::least_prefix;
-
-#[cfg(test)]
-mod tests;

@@ -28,6 +28,3 @@ pub use laws::{a_system_has_one_answer, reduced_sets_show_what_is_open};
 pub use reduced::Reduced;
 pub use reducing::{Reduction, reduce};
 pub use solving::solve;
-
-#[cfg(test)]
-mod tests;

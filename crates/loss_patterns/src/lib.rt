@@ -14,6 +14,3 @@ pub use kind::{LossKind, read_loss};
 pub use loss::Loss;
 pub use numbers::read_number;
 pub use sending::order;
-
-#[cfg(test)]
-mod tests;

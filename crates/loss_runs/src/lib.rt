@@ -22,6 +22,3 @@ pub use plan::RunPlan;
 pub use result::{RunEnd, RunResult, RunsRefusal};
 pub use runs::LossRuns;
 pub use writing::write_runs;
-
-#[cfg(test)]
-mod tests;

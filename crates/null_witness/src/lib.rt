@@ -17,6 +17,3 @@ pub use laws::{
     null_words_show_what_is_open,
 };
 pub use null_word::NullWord;
-
-#[cfg(test)]
-mod tests;

@@ -14,6 +14,3 @@ pub use codec::Codec;
 pub use identifier::{PacketId, read_id, write_id};
 pub use laws::fields_have_one_spelling;
 pub use oti::{Oti, read_oti, write_oti};
-
-#[cfg(test)]
-mod tests;

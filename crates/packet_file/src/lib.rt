@@ -15,6 +15,3 @@ pub use header::Header;
 pub use header_file::{HEADER_LEN, read_header, write_header};
 pub use laws::headers_and_packets_have_one_spelling;
 pub use packets::{IDENTIFIER_LEN, next_packet, write_packet};
-
-#[cfg(test)]
-mod tests;

@@ -13,6 +13,3 @@ mod writer;
 
 pub use kind::{Pass, PassRefusal, Passed};
 pub use passing::pass;
-
-#[cfg(test)]
-mod tests;

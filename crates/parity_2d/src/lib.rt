@@ -7,6 +7,3 @@
 mod grid;
 
 pub use grid::{parity_2d, size_2d};
-
-#[cfg(test)]
-mod tests;

@@ -9,6 +9,3 @@ mod limited;
 
 pub use generator::{BadSeed, MAX_BOUND, MAX_SEED, ParkMiller};
 pub use limited::{Draws, Over};
-
-#[cfg(test)]
-mod tests;

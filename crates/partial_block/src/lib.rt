@@ -15,6 +15,3 @@ pub use laws::null_words_show_what_is_not_determined;
 pub use outcome::Survey;
 pub use saved::Partial;
 pub use surveying::survey;
-
-#[cfg(test)]
-mod tests;

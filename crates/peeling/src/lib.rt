@@ -8,8 +8,6 @@
 
 mod laws;
 mod peeler;
-#[cfg(test)]
-mod tests;
 mod unknowns;
 mod worklist;
 

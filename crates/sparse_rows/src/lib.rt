@@ -14,6 +14,3 @@ mod laws;
 pub use builder::RowsBuilder;
 pub use code::Code;
 pub use laws::{null_words_hold_a_source_symbol, one_codeword_for_each_source};
-
-#[cfg(test)]
-mod tests;

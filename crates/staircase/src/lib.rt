@@ -14,6 +14,3 @@ mod stairs;
 pub use left_side::left;
 pub use refusal::BuildRefusal;
 pub use stairs::{Built, add_stairs, staircase};
-
-#[cfg(test)]
-mod tests;

@@ -14,6 +14,3 @@ pub use arena::Arena;
 pub use block::Block;
 #[doc(hidden)]
 pub use memory::{Lease, Memory};
-
-#[cfg(test)]
-mod tests;

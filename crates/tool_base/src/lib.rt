@@ -25,6 +25,3 @@ pub use printing::{put_number, put_text};
 pub use staircase::{BuildRefusal, Built};
 pub use status::Status;
 pub use words::read_words;
-
-#[cfg(test)]
-mod tests;

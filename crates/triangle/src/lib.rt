@@ -7,6 +7,3 @@
 mod chains;
 
 pub use chains::triangle;
-
-#[cfg(test)]
-mod tests;

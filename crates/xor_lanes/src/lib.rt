@@ -14,9 +14,6 @@ mod sums;
 use std::simd::prelude::*;
 pub use sums::add_columns;
 
-#[cfg(test)]
-mod tests;
-
 /// Each byte of `dst` becomes its XOR with the byte of `src` at the same place. Both have the same
 /// length, whatever it is.
 pub fn xor_into(dst: &mut [u8], src: &[u8])

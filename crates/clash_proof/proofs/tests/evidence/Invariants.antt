@@ -1,8 +1,0 @@
-use Rattle.std.proofs.Common.{◌≡◌}
-use Rattle.clash_proof.proofs.tests.evidence.Given as goal
-
-abbrev pub invariant-loop-i : goal.invariant-loop-i
-invariant-loop-i l = record {
-  n : l.ev.n ≡ 7;
-  len : l.ev.len ≡ 1;
-}

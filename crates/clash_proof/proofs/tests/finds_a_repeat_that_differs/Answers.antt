@@ -1,6 +1,0 @@
-use Rattle.std.proofs.Common.{refl}
-use Rattle.sparse_rows.proofs.Tested.{has_shape_true}
-use Rattle.clash_proof.proofs.tests.finds_a_repeat_that_differs.Goals as goal
-
-pub small_code-requires-clause-shape : goal.small_code-requires-clause-shape
-small_code-requires-clause-shape g c = has_shape_true _ refl

@@ -1,6 +1,0 @@
-use Rattle.std.proofs.Common.{refl}
-use Rattle.sparse_rows.proofs.Tested.{has_shape_true}
-use Rattle.fec_session.proofs.tests.a_symbol_has_many_bytes.Goals as goal
-
-pub code_of-requires-clause-shape : goal.code_of-requires-clause-shape
-code_of-requires-clause-shape g c = has_shape_true _ refl
