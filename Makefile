@@ -22,6 +22,7 @@ test:
 	rt ci
 	@! command -v python3 > /dev/null || python3 tools/promises.py
 	@! command -v python3 > /dev/null || python3 tools/trusted.py --check
+	@! command -v python3 > /dev/null || python3 tools/chains.py --check
 
 #   make promises           prints the file and line of each promise of docs/PROMISES.md, and fails where one isn't there
 promises:
@@ -30,6 +31,10 @@ promises:
 #   make trusted            prints the definitions that a reader must believe, and fails where files mix them with others
 trusted:
 	@python3 tools/trusted.py
+
+#   make chains             prints the ways from the promises down to their last definitions: docs/CHAINS.md
+chains:
+	@python3 tools/chains.py
 
 #   make build              proves and builds the program, and prints its path: build/eperftool
 build:
@@ -72,4 +77,4 @@ pages: build/eperftool
 faults: build/eperftool build/one_block
 	@python3 tools/faults.py
 
-.PHONY: help demo datagrams test promises trusted fuzz pages faults plots build install bench
+.PHONY: help demo datagrams test promises trusted chains fuzz pages faults plots build install bench
