@@ -1,6 +1,6 @@
 #!/usr/bin/env python3
-"""Finds the clause behind each promise of docs/PROMISES.md, and behind each answer of docs/CAUSES.md, and the code of
-docs/LIBRARY.md in the example.
+"""Finds the clause behind each promise of docs/PROMISES.md, and behind each answer of docs/CAUSES.md, the code of
+docs/LIBRARY.md in the example, and each definition that a page names with its file.
 
 A line of a table ends with functions and, in brackets, clauses of their contracts, or fields of a record of promises.
 Each has to be there, in the crates that the heading above names. With `-v` each is printed with its file and line; a
@@ -14,11 +14,13 @@ from typing import NamedTuple, Optional
 TOP = pathlib.Path(__file__).resolve().parent.parent
 PAGES = [TOP / "docs" / "PROMISES.md", TOP / "docs" / "CAUSES.md"]
 LIBRARY, EXAMPLE = TOP / "docs" / "LIBRARY.md", TOP / "crates" / "one_block"
+PROGRAM = "eperftool"
 HEADS = ("|---", "| promise", "| law", "| status", "| words", "| call")
 FUNCTION = re.compile(r"^\s*(?:pub(?:\([a-z]+\))? )?(?:const )?fn (\w+)")
 TYPE = re.compile(r"^(?:impl(?:<[^>]*>)? (?:(\w+)(?:<[^>]*>)? for )?(\w+)|pub (?:struct|enum|trait) (\w+))")
 CLAUSE = re.compile(r"^\s*ensures\*? (\w+) \{")
 FIELD = re.compile(r"^ {2,4}pub (\w+) :")
+PLACED = re.compile(r"((?:`\w+`(?:,|,? and)?\s*)+)\((?:in )?`((?:\w+/)?specs/\w+)`")
 NAMED = re.compile(r"`([\w:]+)`(?:`?: )?(?: \(([^)]*)\))?")
 
 
@@ -143,12 +145,24 @@ def pasted():
                 yield f"docs/{LIBRARY.name}: not in the example: {piece.strip().splitlines()[0]}"
 
 
+def misplaced():
+    """Of each definition that a page names with its file, whether it isn't there."""
+    for page in [TOP / "README.md", *sorted((TOP / "docs").glob("*.md"))]:
+        for names, place in PLACED.findall(page.read_text().replace("\n", " ")):
+            crate, _, file = place.rpartition("specs/")
+            path = TOP / "crates" / (crate.rstrip("/") or PROGRAM) / "specs" / f"{file}.antt"
+            text = path.read_text() if path.is_file() else ""
+            for name in re.findall(r"`([A-Z]\w+)`", names):
+                if not re.search(rf"^(?:[a-z]+ )*{name}\b", text, re.M):
+                    yield f"{page.relative_to(TOP)}: `{name}` isn't in {path.relative_to(TOP)}"
+
+
 def main():
     readers = [Reader(page) for page in PAGES]
     for reader in readers:
         reader.read()
     found = [line for reader in readers for line in reader.found]
-    errors = [line for reader in readers for line in reader.errors] + list(pasted())
+    errors = [line for reader in readers for line in reader.errors] + list(pasted()) + list(misplaced())
     if "-v" in sys.argv[1:]:
         print("\n".join(found))
         print(f"{len(found)} functions, clauses and fields found")
