@@ -1,8 +1,8 @@
 #!/usr/bin/env python3
 """How many packets of a block are needed, in random order: by peeling alone, and with elimination.
 
-Runs build/eperftool, which `make build` makes (EPERFTOOL names another program). A line for each code: the mean and the
-greatest number of 30 orders, which are those of python's generator with the seeds 0 to 29.
+Runs build/eperftool, which `make build` makes (EPERFTOOL names another program). A row of docs/GUIDE.md's table for each
+code: the mean and the greatest number of 30 orders, which are those of python's generator with the seeds 0 to 29.
 """
 import os
 import pathlib
@@ -22,7 +22,7 @@ def suffices(packets):
     return run(["decode"], packets)[0] == 0
 
 
-def needed(words, sources, runs=RUNS):
+def needed(name, words, sources, runs=RUNS):
     _, file, _ = run(["encode", "--symbol=1", *words], os.urandom(sources))
     header, packets = file[:26], [file[at : at + 5] for at in range(26, len(file), 5)]
     peeling, elimination = [], []
@@ -40,19 +40,16 @@ def needed(words, sources, runs=RUNS):
             else:
                 low = middle + 1
         elimination.append(low)
-    print(
-        f"{' '.join(words):44} k {sources} n {len(packets)}:"
-        f" peeling {sum(peeling) / runs:.0f}, at most {max(peeling)};"
-        f" elimination {sum(elimination) / runs:.0f}, at most {max(elimination)}",
-        flush=True,
-    )
+    cells = [name, f"{sources:,}", f"{len(packets):,}"]
+    cells += [f"{sum(counts) / runs:,.0f}, {max(counts):,}" for counts in (peeling, elimination)]
+    print(f"| {' | '.join(cells)} |", flush=True)
 
 
-needed(["--block=1000", "--max-n=1500"], 1000)
-needed(["--block=1000", "--max-n=1500", "--n1=5"], 1000)
-needed(["--block=1000", "--max-n=1500", "--n1=7"], 1000)
-needed(["--block=1000", "--max-n=1500", "--codec=triangle"], 1000)
-needed(["--block=1000", "--max-n=2000"], 1000)
-needed(["--block=100", "--max-n=150"], 100)
-needed(["--block=10000", "--max-n=15000"], 10000, runs=5)
-needed(["--codec=2d", "--width=10", "--block=100"], 100)
+needed("staircase, N1 = 3", ["--block=1000", "--max-n=1500"], 1000)
+needed("staircase, N1 = 5", ["--block=1000", "--max-n=1500", "--n1=5"], 1000)
+needed("staircase, N1 = 7", ["--block=1000", "--max-n=1500", "--n1=7"], 1000)
+needed("triangle, N1 = 3", ["--block=1000", "--max-n=1500", "--codec=triangle"], 1000)
+needed("staircase, N1 = 3", ["--block=1000", "--max-n=2000"], 1000)
+needed("staircase, N1 = 3", ["--block=100", "--max-n=150"], 100)
+needed("staircase, N1 = 3", ["--block=10000", "--max-n=15000"], 10000, runs=5)
+needed("2d, width 10", ["--codec=2d", "--width=10", "--block=100"], 100)

@@ -5,7 +5,8 @@
 
 A command is an indented line that begins with `$ `; the indented lines behind it are what it prints, to either stream.
 The commands of a page run one after the other by one shell, in a folder of their own where build/ is this repository's
-and `eperftool` on the PATH is build/eperftool. `make` isn't run. A difference is printed, and ends with status 1.
+and `eperftool` on the PATH is build/eperftool. `make` isn't run. A difference is printed, and ends with status 1. So is a
+row that bench/needed.py prints and that the guide hasn't.
 """
 import os
 import pathlib
@@ -14,7 +15,8 @@ import sys
 import tempfile
 
 TOP = pathlib.Path(__file__).resolve().parent.parent
-PAGES = ["README.md", "docs/GUIDE.md"]
+GUIDE = "docs/GUIDE.md"
+PAGES = ["README.md", GUIDE]
 END = "-- that was all --"
 
 
@@ -42,6 +44,13 @@ def printed(all_commands):
     return [part.splitlines() for part in done.stdout.split(f"{END}\n")]
 
 
+def missing_rows():
+    """The rows of a table that bench/needed.py prints and that the guide hasn't, and how many it prints."""
+    done = subprocess.run([sys.executable, TOP / "bench" / "needed.py"], stdout=subprocess.PIPE, text=True, check=True)
+    rows, page = done.stdout.splitlines(), (TOP / GUIDE).read_text().splitlines()
+    return [row for row in rows if row not in page], len(rows)
+
+
 def main():
     wrong = 0
     for page in sys.argv[1:] or PAGES:
@@ -52,6 +61,10 @@ def main():
                 print(f"{page}: $ {command}", *(f"  page: {line}" for line in lines), sep="\n")
                 print(*(f"  runs: {line}" for line in got), sep="\n")
         print(f"{page}: {len(wanted)} commands")
+    if not sys.argv[1:]:
+        rows, count = missing_rows()
+        wrong += len(rows)
+        print(*(f"{GUIDE} hasn't: {row}" for row in rows), f"{GUIDE}: {count} rows of bench/needed.py", sep="\n")
     return 1 if wrong else 0
 
 
