@@ -18,7 +18,8 @@ use Rattle.packet_file.specs.declared.fault.FileFault.TheVariants.{ReadFault}
 use Rattle.tool_base.specs.declared.status.Status.{Status}
 use Rattle.tool_base.specs.declared.status.Status.TheVariants as status
 use Rattle.eperftool.specs.Codes.{IsFirstOver}
-use Rattle.eperftool.specs.Outside.{Hearing, Streams}
+use Rattle.fec_base.specs.Outside.{Hearing}
+use Rattle.eperftool.specs.Outside.{Streams}
 use Rattle.eperftool.specs.Outcomes.{outcome_status}
 use Rattle.eperftool.specs.Received.{IsPacketFile}
 use Rattle.eperftool.specs.Refusals.{IsRefused, refusal_status}

@@ -13,7 +13,8 @@ use Rattle.tool_base.specs.declared.status.Status.{Status}
 use Rattle.tool_base.specs.declared.status.Status.TheVariants as status
 use Rattle.eperftool.specs.File.{IsEncoding}
 use Rattle.eperftool.specs.Options.{header_for}
-use Rattle.eperftool.specs.Outside.{Hearing, Streams}
+use Rattle.fec_base.specs.Outside.{Hearing}
+use Rattle.eperftool.specs.Outside.{Streams}
 use Rattle.eperftool.specs.EncodeRun.{Encoded, IsEncodeRun}
 use Rattle.eperftool.specs.RunLaws.{IsCleanDecode, OrMemory}
 use Rattle.eperftool.specs.declared.options.EncodeOptions.{EncodeOptions}

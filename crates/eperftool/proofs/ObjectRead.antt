@@ -6,7 +6,7 @@ use Rattle.packet_file.specs.declared.fault.Limit.TheVariants.{Length}
 use Rattle.packet_file.specs.declared.fault.FileFault.TheVariants.{TooLarge}
 use Rattle.eperftool.specs.Object.{RefusesObject}
 use Rattle.eperftool.specs.EncodeRun.{RefusesEncode}
-use Rattle.eperftool.specs.Outside.{Stream}
+use Rattle.fec_base.specs.Outside.{Stream}
 use Rattle.eperftool.specs.declared.options.EncodeOptions.{EncodeOptions}
 use Rattle.eperftool.specs.declared.refusal.Refusal.{Refusal}
 use Rattle.eperftool.specs.declared.refusal.Refusal.TheVariants.{File}

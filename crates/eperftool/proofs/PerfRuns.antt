@@ -11,7 +11,8 @@ use Rattle.tool_base.specs.Options.{codec_word}
 use Rattle.tool_base.specs.BlockCode.{shape_matrix}
 use Rattle.tool_base.specs.declared.status.Status.{Status}
 use Rattle.tool_base.specs.declared.status.Status.TheVariants as status
-use Rattle.eperftool.specs.Outside.{Stream, Streams}
+use Rattle.fec_base.specs.Outside.{Stream}
+use Rattle.eperftool.specs.Outside.{Streams}
 use Rattle.eperftool.specs.PerfRun.{IsPerfRun, RefusesPerf, Tried, Tries, block_bytes, tried_text}
 use Rattle.eperftool.specs.Refusals.{IsRefused, refusal_status, refusal_text}
 use Rattle.eperftool.specs.RunLaws.{NothingFails, OrMemory}

@@ -4,7 +4,7 @@ use Rattle.sparse_rows.specs.Matrix.{Matrix}
 use Rattle.packet_file.specs.Header.{HeaderFields}
 use Rattle.packet_file.specs.Taking.{TakesAtMost}
 use Rattle.eperftool.specs.DecodeRun.{FailsAtPackets, RefusesDecode}
-use Rattle.eperftool.specs.Outside.{Hearing, Stream, stream}
+use Rattle.fec_base.specs.Outside.{Hearing, Stream, stream}
 use Rattle.eperftool.specs.Receiving.{RefusesOpening}
 use Rattle.eperftool.specs.Told.{Opens}
 use Rattle.eperftool.specs.declared.refusal.Refusal.{Refusal}

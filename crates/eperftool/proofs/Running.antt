@@ -9,7 +9,8 @@ use Rattle.tool_base.specs.declared.command.Command.{Command}
 use Rattle.tool_base.specs.declared.command.Command.TheVariants as command
 use Rattle.tool_base.specs.declared.status.Status.{Status}
 use Rattle.tool_base.specs.declared.status.Status.TheVariants as status
-use Rattle.eperftool.specs.Outside.{Hearing, Stream, Streams}
+use Rattle.fec_base.specs.Outside.{Hearing, Stream}
+use Rattle.eperftool.specs.Outside.{Streams}
 use Rattle.eperftool.specs.PassRun.{IsPassRun}
 use Rattle.eperftool.specs.Run.{IsCommandRun, IsUsageRun}
 use Rattle.eperftool.specs.Written.{IsTold}

@@ -28,7 +28,7 @@ use Rattle.eperftool.specs.Receiving.{AreCores, TakesPacket}
 use Rattle.eperftool.specs.Receiving.{FailsAtOne}
 use Rattle.eperftool.specs.DecodeRun.{FailsAtPackets}
 use Rattle.eperftool.specs.Written.{TakesSome}
-use Rattle.eperftool.specs.Outside.{hearing, stream}
+use Rattle.fec_base.specs.Outside.{hearing, stream}
 use Rattle.eperftool.specs.Told.{AreTaken, IsWhole, StandsAt, StandsWithin, TellsOf, told_places}
 use Rattle.eperftool.specs.declared.refusal.Refusal.{Refusal}
 use Rattle.eperftool.specs.declared.refusal.Refusal.TheVariants.{Memory, File, Draws, Watch}

@@ -15,7 +15,8 @@ use Rattle.sparse_rows.specs.Matrix.{Matrix}
 use Rattle.tool_base.specs.declared.status.Status.{Status}
 use Rattle.eperftool.specs.Codes.{IsFirstOver}
 use Rattle.eperftool.specs.Outcomes.{decode_report, object_of, outcome_status}
-use Rattle.eperftool.specs.Outside.{Hearing, Stream, Streams, stream}
+use Rattle.fec_base.specs.Outside.{Hearing, Stream, stream}
+use Rattle.eperftool.specs.Outside.{Streams}
 use Rattle.fec_session.specs.Determines.{Determines}
 use Rattle.eperftool.specs.Received.{arrivals_of}
 use Rattle.eperftool.specs.Refusals.{IsRefused, refusal_status, refusal_text}

@@ -11,7 +11,8 @@ use Rattle.tool_base.specs.declared.status.Status.{Status}
 use Rattle.eperftool.specs.Codes.{IsFirstOver}
 use Rattle.eperftool.specs.File.{IsEncoding}
 use Rattle.eperftool.specs.Options.{header_for}
-use Rattle.eperftool.specs.Outside.{Stream, Streams}
+use Rattle.fec_base.specs.Outside.{Stream}
+use Rattle.eperftool.specs.Outside.{Streams}
 use Rattle.eperftool.specs.Refusals.{IsRefused, refusal_status, refusal_text}
 use Rattle.eperftool.specs.Written.{IsCut, IsTold}
 use Rattle.fec_base.specs.Bytes.{AppendsPart}

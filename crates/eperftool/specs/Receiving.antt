@@ -14,7 +14,7 @@ use Rattle.peeling.specs.Decoder.{Decoder}
 use Rattle.peeling.specs.Stands.{StandsFor}
 use Rattle.sparse_rows.specs.Matrix.{Matrix}
 use Rattle.eperftool.specs.Codes.{IsFirstOver, count_at}
-use Rattle.eperftool.specs.Outside.{Hearing, Stream}
+use Rattle.fec_base.specs.Outside.{Hearing, Stream}
 use Rattle.eperftool.specs.Received.{arrivals_of}
 use Rattle.eperftool.specs.Told.{IsOver, Opens, StandsAt}
 use Rattle.eperftool.specs.declared.refusal.Refusal.{Refusal}

@@ -7,7 +7,8 @@ use Rattle.tool_base.specs.declared.command.Command.{Command}
 use Rattle.tool_base.specs.declared.status.Status.{Status}
 use Rattle.eperftool.specs.DecodeRun.{IsDecodeRun}
 use Rattle.eperftool.specs.EncodeRun.{IsEncodeRun}
-use Rattle.eperftool.specs.Outside.{Hearing, Streams}
+use Rattle.fec_base.specs.Outside.{Hearing}
+use Rattle.eperftool.specs.Outside.{Streams}
 use Rattle.eperftool.specs.PassRun.{IsPassRun}
 use Rattle.eperftool.specs.PerfRun.{IsPerfRun}
 use Rattle.eperftool.specs.Written.{IsTold}

@@ -12,7 +12,8 @@ use Rattle.packet_pass.specs.declared.kind.Passed.{Passed}
 use Rattle.tool_base.specs.declared.status.Status.{Status}
 use Rattle.tool_base.specs.declared.status.Status.TheVariants as status
 use Rattle.eperftool.specs.Options.{header_for}
-use Rattle.eperftool.specs.Outside.{Hearing, Streams}
+use Rattle.fec_base.specs.Outside.{Hearing}
+use Rattle.eperftool.specs.Outside.{Streams}
 use Rattle.eperftool.specs.Received.{IsPacketFile}
 use Rattle.eperftool.specs.Told.{HasCodes}
 use Rattle.eperftool.specs.EncodeRun.{Encoded, IsEncodeRun}

@@ -3,7 +3,7 @@ use Rattle.std.specs.Prelude.{◌⊎◌, ℕ, List, Option, codes}
 use Rattle.std.specs.Io.KnownBytes.{Appends, Consumes}
 use Rattle.fec_base.specs.Bytes.{AppendsFront}
 use Rattle.fec_base.specs.Causes.{Rose}
-use Rattle.eperftool.specs.Outside.{Stream}
+use Rattle.fec_base.specs.Outside.{Stream}
 
 -- some bytes were taken from the front of the input
 abbrev pub TakesSome : Option (List ℕ) → Option (List ℕ) → Type 0

@@ -1,7 +1,7 @@
 // How a run ends.
 ghost use Rattle.std.specs.Prelude.{◌≡◌, ◌≢◌, ◌⊎◌, OnOk, OnErr};
 ghost use Rattle.tool_base.specs.Status.{fault_text};
-ghost use Rattle.eperftool.specs.Outside.{stream};
+ghost use Rattle.fec_base.specs.Outside.{stream};
 ghost use Rattle.eperftool.specs.Written.{IsTold};
 
 use fec_base::{Sink, Watch, WriteFailed};

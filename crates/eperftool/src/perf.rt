@@ -2,7 +2,7 @@
 ghost use Rattle.std.specs.Prelude.{◌≡◌, ◌≤◌, IfOk, IfErr, Some};
 ghost use Rattle.tool_base.specs.BlockCode.{shape_matrix};
 ghost use Rattle.tool_base.specs.Ranges.{IsInRange};
-ghost use Rattle.eperftool.specs.Outside.{stream};
+ghost use Rattle.fec_base.specs.Outside.{stream};
 ghost use Rattle.eperftool.specs.PerfRun.{RefusesPerf, Tries, block_bytes};
 ghost use Rattle.eperftool.specs.Asking.{perf_command};
 

@@ -11,7 +11,7 @@ ghost use Rattle.packet_file.specs.Header.{IsHeader, header_bytes};
 ghost use Rattle.packet_file.specs.Taking.{TakesAtMost};
 ghost use Rattle.eperftool.specs.BuiltCodes.{AreBlockCodes};
 ghost use Rattle.eperftool.specs.DecodeRun.{FailsAtPackets, RefusesDecode};
-ghost use Rattle.eperftool.specs.Outside.{hearing, stream};
+ghost use Rattle.fec_base.specs.Outside.{hearing, stream};
 ghost use Rattle.eperftool.specs.Receiving.{AreCores, FailsAtOne, IsReceived, RefusesOpening};
 ghost use Rattle.eperftool.specs.Receiving.{TakesPacket, matrix_at};
 ghost use Rattle.eperftool.specs.Told.{IsOver, StandsAt};

@@ -3,7 +3,7 @@ ghost use Rattle.std.specs.Prelude.{◌≡◌, OnErr, OnOk, decimal};
 ghost use Rattle.std.specs.Io.KnownBytes.{Appends};
 ghost use Rattle.fec_base.specs.Bytes.{AppendsFront};
 ghost use Rattle.fec_base.specs.Causes.{HasCause};
-ghost use Rattle.eperftool.specs.Outside.{stream};
+ghost use Rattle.fec_base.specs.Outside.{stream};
 ghost use Rattle.eperftool.specs.Refusals.{fault_status, file_fault_text, limit_text, packet_text};
 ghost use Rattle.eperftool.specs.Refusals.{refusal_status, refusal_text};
 ghost use Rattle.eperftool.specs.Written.{IsTold};

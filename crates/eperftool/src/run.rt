@@ -1,7 +1,8 @@
 // The top call.
 ghost use Rattle.std.specs.Prelude.{◌≡◌, ◌≢◌, Some};
 ghost use Rattle.tool_base.specs.Ranges.{IsInRange};
-ghost use Rattle.eperftool.specs.Outside.{hearing, seen};
+ghost use Rattle.fec_base.specs.Outside.{hearing};
+ghost use Rattle.eperftool.specs.Outside.{seen};
 ghost use Rattle.eperftool.specs.Run.{AsksNoDecode, IsCommandRun, IsNoDecode, IsRun};
 
 use crate::{

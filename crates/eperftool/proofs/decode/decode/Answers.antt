@@ -6,7 +6,7 @@ use Rattle.fec_session.specs.declared.outcome.Outcome.{Outcome}
 use Rattle.tool_base.specs.declared.status.Status.TheVariants as status
 use Rattle.eperftool.specs.DecodeRun.{Decodes, LacksMemory}
 use Rattle.eperftool.specs.Outcomes.{decode_report, object_of}
-use Rattle.eperftool.specs.Outside.{Hearing, Stream, hearing, stream}
+use Rattle.fec_base.specs.Outside.{Hearing, Stream, hearing, stream}
 use Rattle.eperftool.specs.Told.{StandsAt}
 use Rattle.eperftool.specs.declared.refusal.Refusal.TheVariants.{Memory}
 use Rattle.eperftool.proofs.Determining.{decodes}

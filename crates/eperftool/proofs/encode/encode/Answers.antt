@@ -4,7 +4,7 @@ use Rattle.tool_base.specs.declared.status.Status.TheVariants as status
 use Rattle.packet_file.specs.Header.{header_bytes}
 use Rattle.eperftool.specs.EncodeRun.{Encoded}
 use Rattle.eperftool.specs.File.{encode_report, packets}
-use Rattle.eperftool.specs.Outside.{Stream, stream}
+use Rattle.fec_base.specs.Outside.{Stream, stream}
 use Rattle.eperftool.specs.Refusals.{IsRefused}
 use Rattle.eperftool.specs.declared.refusal.Refusal.TheVariants.{Memory}
 use Rattle.eperftool.proofs.Encoding.{made_ready, made_file}

@@ -1,7 +1,7 @@
 use Rattle.std.proofs.Common.{sym, subst}
 use Rattle.std.proofs.lemmas.Result.{err_from_is_err_and}
 use Rattle.eperftool.specs.EncodeRun.{RefusesEncode}
-use Rattle.eperftool.specs.Outside.{Stream, stream}
+use Rattle.fec_base.specs.Outside.{Stream, stream}
 use Rattle.eperftool.proofs.ObjectRead.{refuses_input}
 use Rattle.eperftool.proofs.encode.read_and_make.Goals as goal
 

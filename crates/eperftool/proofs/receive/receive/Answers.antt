@@ -3,7 +3,7 @@ use Rattle.fec_session.specs.Session.{AreNew}
 use Rattle.packet_file.specs.Header.{header_bytes}
 use Rattle.eperftool.specs.Receiving.{matrix_at}
 use Rattle.eperftool.specs.DecodeRun.{FailsAtPackets, RefusesDecode}
-use Rattle.eperftool.specs.Outside.{Hearing, Stream, hearing, stream}
+use Rattle.fec_base.specs.Outside.{Hearing, Stream, hearing, stream}
 use Rattle.eperftool.specs.Told.{StandsAt}
 use Rattle.eperftool.proofs.Cores.{new_codes, new_cores}
 use Rattle.eperftool.proofs.Refusing.{behind_refused, opening_refused}

@@ -3,7 +3,7 @@ use Rattle.std.proofs.Common.{IfSome, IfErr, Result, Bool}
 use Rattle.std.specs.Io.KnownBytes.{Consumes}
 use Rattle.oti_fields.specs.declared.identifier.PacketId.{PacketId}
 use Rattle.packet_file.specs.Packets.{IsIdOf, packet_bytes}
-use Rattle.eperftool.specs.Outside.{hearing, stream}
+use Rattle.fec_base.specs.Outside.{hearing, stream}
 use Rattle.eperftool.specs.Receiving.{FailsAtOne}
 use Rattle.eperftool.specs.declared.refusal.Refusal.{Refusal}
 use Rattle.eperftool.specs.declared.refusal.Refusal.TheVariants.{Watch}

@@ -3,7 +3,7 @@ use Rattle.std.proofs.Common.{refl, sym, ap, arith, length-append, subst}
 use Rattle.fec_session.specs.Session.{Receiving}
 use Rattle.eperftool.specs.Receiving.{AreCores, matrix_at}
 use Rattle.eperftool.specs.DecodeRun.{FailsAtPackets}
-use Rattle.eperftool.specs.Outside.{hearing, stream}
+use Rattle.fec_base.specs.Outside.{hearing, stream}
 use Rattle.eperftool.specs.Told.{IsWhole}
 use Rattle.eperftool.specs.declared.refusal.Refusal.{Refusal}
 use Rattle.eperftool.proofs.Cores.{all_are_whole, cores_more, whole_have_all}
