@@ -6,7 +6,7 @@
 A command is an indented line that begins with `$ `; the indented lines behind it are what it prints, to either stream.
 The commands of a page run one after the other by one shell, in a folder of their own where build/ is this repository's
 and `eperftool` on the PATH is build/eperftool. `make` isn't run. A difference is printed, and ends with status 1. So is a
-row that bench/needed.py prints and that the guide hasn't.
+row of docs/pictures/needed.dat that the guide's table hasn't.
 """
 import os
 import pathlib
@@ -16,6 +16,7 @@ import tempfile
 
 TOP = pathlib.Path(__file__).resolve().parent.parent
 GUIDE = "docs/GUIDE.md"
+NEEDED = "docs/pictures/needed.dat"
 PAGES = ["README.md", GUIDE]
 END = "-- that was all --"
 
@@ -45,9 +46,16 @@ def printed(all_commands):
 
 
 def missing_rows():
-    """The rows of a table that bench/needed.py prints and that the guide hasn't, and how many it prints."""
-    done = subprocess.run([sys.executable, TOP / "bench" / "needed.py"], stdout=subprocess.PIPE, text=True, check=True)
-    rows, page = done.stdout.splitlines(), (TOP / GUIDE).read_text().splitlines()
+    """The rows of the guide's table of needed packets that its data gives and that the guide hasn't, and their count."""
+    rows, page = [], (TOP / GUIDE).read_text().splitlines()
+    for block in (TOP / NEEDED).read_text().split("\n\n\n")[1:]:
+        title, *lines = block.strip().splitlines()
+        name = title.strip('"')
+        for k, *percents in (map(float, line.split()) for line in lines):
+            if k in (100, 1000):
+                mean, most, half, most_of_all = (f"{percent:.1f}".removesuffix(".0") for percent in percents)
+                rows.append(f"| {name}{' ' * bool(name)}| {k:,.0f} | {mean}, {most} | {half}, {most_of_all} |")
+                name = ""
     return [row for row in rows if row not in page], len(rows)
 
 
@@ -64,7 +72,7 @@ def main():
     if not sys.argv[1:]:
         rows, count = missing_rows()
         wrong += len(rows)
-        print(*(f"{GUIDE} hasn't: {row}" for row in rows), f"{GUIDE}: {count} rows of bench/needed.py", sep="\n")
+        print(*(f"{GUIDE} hasn't: {row}" for row in rows), f"{GUIDE}: {count} rows of {NEEDED}", sep="\n")
     return 1 if wrong else 0
 
 

@@ -1,7 +1,7 @@
 -- How a block comes out is one, and depends on what arrived alone.
 use mathlib.Core.Path.{fun_ext}
 use Rattle.std.proofs.Common.{◌≡◌, ◌↔◌, ℕ, ◌<◌, ◌==◌, Bool, true, List, [], get_or, refl, sym, ap}
-use Rattle.std.proofs.Common.{ap₂, ◌∙◌, subst}
+use Rattle.std.proofs.Common.{ap₂, ◌∙◌, subst, inl, inr}
 use Rattle.std.specs.List.{Contains}
 use Rattle.std.proofs.lemmas.List.Elements.{All-from_get_or, Contains-get_or}
 use Rattle.sparse_rows.specs.Matrix.{Matrix}
@@ -12,10 +12,11 @@ use Rattle.sparse_rows.specs.Fitting.{IsFitting, IsUndetermined}
 use Rattle.sparse_rows.specs.Determined.{IsSource}
 use Rattle.sparse_rows.proofs.Sets.{any_at, any_from, same_test}
 use Rattle.null_witness.specs.Laws.{FirstNullWordIsOne}
-use Rattle.peeling.specs.Laws.{HasSameArrivals}
+use Rattle.peeling.specs.Laws.{ClosureGrows, HasSameArrivals}
 use Rattle.fec_session.specs.Block.{Block}
 use Rattle.fec_session.specs.Determines.{Determines}
-use Rattle.fec_session.specs.Laws.{ArrivalsDecideOutcome, OutcomeIsOne}
+use Rattle.fec_session.specs.Laws.{AreAmongArrivals, ArrivalsDecideOutcome, ContradictionStays}
+use Rattle.fec_session.specs.Laws.{OutcomeIsOne, SourceStays}
 use Rattle.fec_session.specs.declared.outcome.Outcome.TheVariants as outcome
 
 -- ---- one outcome
@@ -53,47 +54,78 @@ one_outcome first m len arrivals (outcome.Undetermined w) (outcome.Block b) shap
 one_outcome first m len arrivals (outcome.Undetermined v) (outcome.Undetermined w) shape one two =
     ap (λ (x : List ℕ). outcome.Undetermined x) (first m (positions arrivals) v w shape one.1 two.1)
 
--- ---- the same arrivals
+-- ---- further arrivals
 
-module _ (arrivals others : List Arrival) (same : HasSameArrivals arrivals others) where
-  -- what has all of the one has all of the other
-  fits_others : (x : ℕ → List ℕ) → Fits arrivals x → Fits others x
-  fits_others x fits = All-from_get_or (λ (a : Arrival). x a.0 ≡ a.1) others (0, []) (λ i lt.
-      let there : Contains arrivals (get_or others i (0, [])) =
-      (same (get_or others i (0, []))).1 (Contains-get_or others i (0, []) lt) in
+module _ (arrivals others : List Arrival) (among : AreAmongArrivals arrivals others) where
+  -- what has all of the others has all of these
+  fits_fewer : (x : ℕ → List ℕ) → Fits others x → Fits arrivals x
+  fits_fewer x fits = All-from_get_or (λ (a : Arrival). x a.0 ≡ a.1) arrivals (0, []) (λ i lt.
+      let there : Contains others (get_or arrivals i (0, [])) =
+      among (get_or arrivals i (0, [])) (Contains-get_or arrivals i (0, []) lt) in
       subst (λ (a : Arrival). x a.0 ≡ a.1) there.2 (fits there.0 _ there.1))
 
-  -- a position of the one is a position of the other
+  -- a position of these is a position of the others
   positions_within : IsWithin (positions arrivals) (positions others)
   positions_within c e =
       let at = any_at (λ (a : Arrival). a.0 == c) (0, []) arrivals e in
       let there : Contains others (get_or arrivals at.0 (0, [])) =
-      (same (get_or arrivals at.0 (0, []))).0 (Contains-get_or arrivals at.0 (0, []) at.1) in
+      among (get_or arrivals at.0 (0, [])) (Contains-get_or arrivals at.0 (0, []) at.1) in
       any_from (λ (a : Arrival). a.0 == c) _ others there.0 there.1
       (ap (λ (a : Arrival). a.0 == c) there.2 ∙ at.2)
 
-  -- a codeword that fits the one fits the other
-  fitting_others : (m : Matrix) (len : ℕ) (word : List (List ℕ)) → IsFitting m len arrivals word
-      → IsFitting m len others word
-  fitting_others m len word h =
-      record { codeword = h.codeword; fits = fits_others (symbol_at len word) h.fits }
+  -- a codeword that fits the others fits these
+  fitting_fewer : (m : Matrix) (len : ℕ) (word : List (List ℕ)) → IsFitting m len others word
+      → IsFitting m len arrivals word
+  fitting_fewer m len word h =
+      record { codeword = h.codeword; fits = fits_fewer (symbol_at len word) h.fits }
 
--- arrivals that are the same are so the other way round
-turned : (arrivals others : List Arrival) → HasSameArrivals arrivals others
-    → HasSameArrivals others arrivals
-turned arrivals others same a = ((same a).1, (same a).0)
+pub contradiction_stays : ContradictionStays
+contradiction_stays m len arrivals others outcome.NoCodeword among none later = refl
+contradiction_stays m len arrivals others (outcome.Block b) among none later =
+    absurd (none later.0.word (fitting_fewer arrivals others among m len later.0.word later.0.fits))
+contradiction_stays m len arrivals others (outcome.Undetermined w) among none later =
+    absurd (none later.0.word
+    (fitting_fewer arrivals others among m len later.0.word later.0.word_fits))
+
+pub source_stays : ClosureGrows → SourceStays
+source_stays grows m len arrivals others block outcome.NoCodeword among one later = inl refl
+source_stays grows m len arrivals others block (outcome.Block kept) among one later =
+    let back = fitting_fewer arrivals others among m len later.0.word later.0.fits in inr (
+      kept,
+      refl,
+      sym (later.0.only later.0.word later.0.fits) ∙ one.0.only later.0.word back,
+      λ peeled. later.1.1 (λ c lt. grows m (positions arrivals) (positions others)
+          (positions_within arrivals others among) c (one.1.0 peeled c lt)),
+    )
+source_stays grows m len arrivals others block (outcome.Undetermined w) among one later =
+    let back = fitting_fewer arrivals others among m len in
+    absurd (one_and_two m len arrivals block.source one.0 (record {
+      word = later.0.word;
+      other = later.0.other;
+      word_fits = back later.0.word later.0.word_fits;
+      other_fits = back later.0.other later.0.other_fits;
+      differ = later.0.differ;
+    }))
+
+-- ---- the same arrivals
 
 module _ (m : Matrix) (len : ℕ) (arrivals others : List Arrival)
     (same : HasSameArrivals arrivals others) where
+  among : AreAmongArrivals arrivals others
+  among a = (same a).0
+
+  turned : AreAmongArrivals others arrivals
+  turned a = (same a).1
+
   positions_same : positions arrivals ≡ positions others
-  positions_same = fun_ext (λ c. same_test _ _ (positions_within arrivals others same c)
-      (positions_within others arrivals (turned arrivals others same) c))
+  positions_same = fun_ext (λ c. same_test _ _ (positions_within arrivals others among c)
+      (positions_within others arrivals turned c))
 
   there : (word : List (List ℕ)) → IsFitting m len arrivals word → IsFitting m len others word
-  there = fitting_others arrivals others same m len
+  there = fitting_fewer others arrivals turned m len
 
   back : (word : List (List ℕ)) → IsFitting m len others word → IsFitting m len arrivals word
-  back = fitting_others others arrivals (turned arrivals others same) m len
+  back = fitting_fewer arrivals others among m len
 
   source_others : (source : List (List ℕ)) → IsSource m len arrivals source
       → IsSource m len others source

@@ -1,11 +1,12 @@
 // Laws over the definitions alone.
 ghost use Rattle.fec_session.specs.Forced.{RebuiltAreForced};
-ghost use Rattle.fec_session.specs.Laws.{ArrivalsDecideOutcome, OutcomeIsOne};
+ghost use Rattle.fec_session.specs.Laws.{ArrivalsDecideOutcome, ContradictionStays, OutcomeIsOne};
+ghost use Rattle.fec_session.specs.Laws.{SourceStays};
 ghost use Rattle.fec_session.specs.Pairing.{CodewordsPairWithSolutions};
 ghost use Rattle.fec_session.specs.NullPairing.{NullWordsPairWithNullSets, PlacesAreOfColumns};
 
 use null_witness::null_words_follow_the_closure;
-use peeling::kept_symbols_are_forced;
+use peeling::{closure_is_least, kept_symbols_are_forced};
 
 /// What a decoder rebuilds at an arrival is decided by the arrivals: the positions are the new
 /// members of the closure of what arrived, and their bytes are those of each codeword that fits.
@@ -41,3 +42,13 @@ pub fn outcome_is_one()
 pub fn arrivals_decide_outcome()
     ensures { ArrivalsDecideOutcome }
 {}
+
+/// Further arrivals take nothing back. A block that is contradicted stays so. One that has its
+/// source keeps it, unless the further arrivals contradict it; one that has it by peeling has it by
+/// peeling then too.
+pub fn further_arrivals_take_nothing_back()
+    ensures contradiction { ContradictionStays }
+    ensures source { SourceStays }
+{
+    closure_is_least();
+}

@@ -22,8 +22,8 @@ mod verdict;
 pub use decoder_core::Core;
 pub use encode::{Coded, encode_block};
 pub use laws::{
-    arrivals_decide_outcome, codewords_pair_with_solutions, null_words_pair_with_null_sets,
-    outcome_is_one, rebuilt_symbols_are_forced,
+    arrivals_decide_outcome, codewords_pair_with_solutions, further_arrivals_take_nothing_back,
+    null_words_pair_with_null_sets, outcome_is_one, rebuilt_symbols_are_forced,
 };
 pub use outcome::Outcome;
 pub use peeling::Arrival;
