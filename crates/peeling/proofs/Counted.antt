@@ -1,5 +1,5 @@
 -- What each row has left, and the sum of what it has seen.
-use Rattle.std.proofs.Common.{◌≡◌, ◌≢◌, ℕ, suc, ◌+◌, ◌-◌, ◌<◌, ⊎_elim, Bool, true, false, not, cond}
+use Rattle.std.proofs.Common.{◌≡◌, ◌%◌, ◌≢◌, ℕ, suc, ◌+◌, ◌<◌, ⊎_elim, Bool, true, false, not, cond}
 use Rattle.std.proofs.Common.{◌==◌, List, [], ◌∷◌, ◌++◌, length, get_or, set, take, filter, map}
 use Rattle.std.proofs.Common.{replicate, All, refl, sym, ap, ap₂, ◌∙◌, subst, arith, true≢false}
 use Rattle.std.proofs.Common.{eqb-true, eq-eqb, bit_xor, length-set, add-suc, suc-add}
@@ -123,10 +123,14 @@ module _ (s : Set) (c : ℕ) (row : List ℕ) (rising : IsStrictlyIncreasing row
       equal = part_length s ∙ sym (h c).long
 
   -- what is left of the row
-  pub left_less : unknowns_of (outside (adding c s) row)
-      ≡ record { count = length (outside s row) - 1; columns = bit_xor (xor_of (outside s row)) c }
-  left_less = let count : length (outside (adding c s) row) ≡ length (outside s row) - 1 =
-      omega (arith, one_less) in rw (count, xor_less) refl
+  pub left_less : unknowns_of (outside (adding c s) row) ≡ record {
+    count = (length (outside s row) % 65536 + 65535) % 65536;
+    columns = bit_xor (xor_of (outside s row)) c;
+  }
+  left_less =
+      let count : length (outside (adding c s) row) % 65536
+      ≡ (length (outside s row) % 65536 + 65535) % 65536 = omega (arith, one_less) in
+      rw (count, xor_less) refl
 
 -- where one column is left, it is the XOR
 pub one_left : (columns : List ℕ) → length columns ≡ 1 → columns ≡ xor_of columns ∷ []
@@ -146,7 +150,10 @@ module _ (m : Matrix) (shape : HasShape m) (len : ℕ) (seen : ℕ → Set) (x :
   -- one row sees one column
   module _ (r c : ℕ) (lt : r < length m.rows) (there : is_in (row_of m r) c ≡ true)
       (unseen : seen r c ≡ false) (d0 old new : Unknowns) (old_is : old ≡ get_or rows r d0)
-      (new_is : new ≡ record { count = old.count - 1; columns = bit_xor old.columns c })
+      (new_is : new ≡ record {
+        count = (old.count + 65535) % 65536;
+        columns = bit_xor old.columns c;
+      })
       (sum : List ℕ) (sum_is : sum ≡ xor (symbol_at len sums r) (x c)) (next : List (List ℕ))
       (next_is : next ≡ set sums r sum) where
     rising : IsStrictlyIncreasing (row_of m r)
@@ -157,7 +164,7 @@ module _ (m : Matrix) (shape : HasShape m) (len : ℕ) (seen : ℕ → Set) (x :
 
     pub new_left : new ≡ unknowns_of (outside (adding c (seen r)) (row_of m r))
     new_left = new_is ∙ ap (λ (u : Unknowns).
-        record { count = u.count - 1; columns = bit_xor u.columns c }) old_left
+        record { count = (u.count + 65535) % 65536; columns = bit_xor u.columns c }) old_left
         ∙ sym (left_less (seen r) c (row_of m r) rising there unseen)
 
     pub sum_new : sum ≡ xor_sum len x (filter (adding c (seen r)) (row_of m r))

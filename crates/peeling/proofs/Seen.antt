@@ -1,20 +1,22 @@
 -- The i-th row of a column sees that the column is known.
 use mathlib.Core.Path.{fun_ext}
-use Rattle.std.proofs.Common.{◌≡◌, ◌≢◌, ◌↔◌, ℕ, ◌+◌, ◌-◌, ◌<◌, ◌≤◌, ◌⊎◌, ⊎_elim, IsTrue, Bool, true}
+use Rattle.std.proofs.Common.{◌≡◌, ◌≢◌, ◌↔◌, ℕ, ◌+◌, ◌-◌, ◌%◌, ◌<◌, ◌≤◌, ◌⊎◌, ⊎_elim, IsTrue, Bool, true}
 use Rattle.std.proofs.Common.{false, ◌||◌, ◌&&◌, ◌==◌, List, [], ◌∷◌, ◌++◌, length, get_or, set}
-use Rattle.std.proofs.Common.{take, drop, filter, All, refl, sym, ap, ap₂, ◌∙◌, subst, arith}
+use Rattle.std.proofs.Common.{take, drop, filter, not, All, refl, sym, ap, ap₂, ◌∙◌, subst, arith}
 use Rattle.std.proofs.Common.{true≢false, bit_xor, length-set, length-drop, get_or-set_same}
 use Rattle.std.proofs.lemmas.Bool.{cases_lt}
 use Rattle.std.proofs.Math.Seq.{take-set-lt}
 use Rattle.std.proofs.lemmas.List.{take_more, get_or_past, get_or-take, get_or-drop, take-set-le}
 use Rattle.std.proofs.lemmas.List.{drop-set-lt, drop-set-add}
 use Rattle.std.proofs.lemmas.List.Folds.{list_any-append}
+use Rattle.std.proofs.lemmas.List.Filters.{length-filter_both}
 use Rattle.fec_base.specs.Symbol.{IsSymbol, zero_symbol, xor, xor_sum}
 use Rattle.sparse_rows.specs.Matrix.{Matrix, IsCode, row_of, is_in}
 use Rattle.sparse_rows.specs.Codeword.{symbol_at, IsAssignment}
 use Rattle.sparse_rows.proofs.Planes.{symbol_at_is}
 use Rattle.sparse_rows.specs.Closure.{Set, flagged, outside, adding}
 use Rattle.sparse_rows.specs.Columns.{column_of}
+use Rattle.sparse_rows.proofs.Flat.{code_row_short}
 use Rattle.sparse_rows.proofs.Sets.{or_none}
 use Rattle.sparse_rows.proofs.Rising.{before_place}
 use Rattle.sparse_rows.proofs.Transposed.{below_absent}
@@ -105,20 +107,22 @@ module _ (m : Matrix) (code : IsCode m) (len c i : ℕ) (place : i < length (col
     cells_long = let rest : length sums ≡ length cells - m.n = length-drop m.n cells in
         omega (arith, rest, counted.long, row_within)
 
-    pub some : (d0 : Unknowns) → 1 ≤ (get_or rows r d0).count
-    some d0 =
-        let count : (get_or rows r d0).count
-        ≡ length (outside (seen_by front c done r) (row_of m r)) =
-        ap (λ (u : Unknowns). u.count) (counted.left r d0 row_within) in
-        omega (
-          arith,
-          count,
-          one_less (seen_by front c done r) c (row_of m r)
-              (code.shape.row r row_within).rising there not_seen,
-        )
+    pub column_short : c < 65536
+    column_short = omega (arith, column_inside, code.most)
+
+    -- what the row has left is counted exactly, once it has seen the column
+    few : length (outside (adding c (seen_by front c done r)) (row_of m r)) < 65536
+    few = omega (
+      arith,
+      one_less (seen_by front c done r) c (row_of m r) (code.shape.row r row_within).rising there
+          not_seen,
+      length-filter_both (seen_by front c done r) (λ d. not (seen_by front c done r d)) (λ d. refl)
+          (row_of m r),
+      code_row_short m code r (omega (arith, row_within, code.shape.count)),
+    )
 
     module _ (d0 new : Unknowns) (new_is : new ≡ record {
-      count = (get_or rows r d0).count - 1;
+      count = ((get_or rows r d0).count + 65535) % 65536;
       columns = bit_xor (get_or rows r d0).columns c;
     }) (spot : ℕ) (spot_is : spot ≡ m.n + r)
         (next : List (List ℕ)) (next_is : next ≡ set cells spot
@@ -149,6 +153,11 @@ module _ (m : Matrix) (code : IsCode m) (len c i : ℕ) (place : i < length (col
       left_is = new_left m code.shape len (seen_by front c done) y is rows sums counted r c
           row_within there not_seen d0 (get_or rows r d0) new refl new_is sum refl (drop m.n next)
           next_sums
+
+      count_is : new.count ≡ length (outside others (row_of m r))
+      unfolding others
+      count_is = let all : new.count ≡ length (outside others (row_of m r)) % 65536 =
+          ap (λ (u : Unknowns). u.count) left_is in omega (arith, all, few)
 
       total_is : sum ≡ xor_sum len y (filter others (row_of m r))
       unfolding others
@@ -182,7 +191,7 @@ module _ (m : Matrix) (code : IsCode m) (len c i : ℕ) (place : i < length (col
       module _ (one : new.count ≡ 1) where
         single : outside others (row_of m r) ≡ new.columns ∷ []
         single = one_left (outside others (row_of m r))
-            (sym (ap (λ (u : Unknowns). u.count) left_is) ∙ one)
+            (sym count_is ∙ one)
             ∙ ap (λ z. z ∷ []) (sym (ap (λ (u : Unknowns). u.columns) left_is))
 
         pub left_below : new.columns < m.n
@@ -218,7 +227,7 @@ module _ (m : Matrix) (code : IsCode m) (len c i : ℕ) (place : i < length (col
         unfolding others
         worked_none none zero zero_is =
             let empty : outside (adding c (seen_by front c done r)) (row_of m r) ≡ [] =
-            none_left _ (sym (ap (λ (u : Unknowns). u.count) left_is) ∙ none) in
+            none_left _ (sym count_is ∙ none) in
             let length_is : zero_symbol (length (get_or next spot [])) ≡ zero_symbol len =
             ap zero_symbol found_long in
             symbols_stayed (held && zero) (sees_all m len before base x (seen_by front c done)
@@ -236,9 +245,6 @@ module _ (m : Matrix) (code : IsCode m) (len c i : ℕ) (place : i < length (col
             (sees_only m len before base x (seen_by front c done) (flagged known) y held h r c
             row_within is_known some_outside single_known))
           where
-            count_is : new.count ≡ length (outside (adding c (seen_by front c done r)) (row_of m r))
-            count_is = ap (λ (u : Unknowns). u.count) left_is
-
             some_outside : outside (adding c (seen_by front c done r)) (row_of m r) ≢ []
             some_outside e = let none : new.count ≡ 0 = count_is ∙ ap length e in
                 ⊎_elim (λ (lt : 1 < new.count). absurd (omega arith))

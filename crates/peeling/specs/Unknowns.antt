@@ -1,5 +1,5 @@
 -- Inside: what a row has left, and the sum of what it has seen.
-use Rattle.std.specs.Prelude.{◌≡◌, ◌<◌, ℕ, List, [], ◌∷◌, length, filter, bit_xor, slice_index_or}
+use Rattle.std.specs.Prelude.{◌≡◌, ◌<◌, ◌%◌, ℕ, List, [], ◌∷◌, length, filter, bit_xor, slice_index_or}
 use Rattle.std.specs.Prelude.{All}
 use Rattle.fec_base.specs.Symbol.{IsSymbol, xor_sum}
 use Rattle.sparse_rows.specs.Matrix.{Matrix, row_of}
@@ -12,9 +12,9 @@ abbrev pub xor_of : List ℕ → ℕ
 xor_of [] = 0
 xor_of (column ∷ columns) = bit_xor column (xor_of columns)
 
--- the number and the XOR of the columns
+-- the number of the columns, as far as 16 bits hold it, and their XOR
 abbrev pub unknowns_of : List ℕ → Unknowns
-unknowns_of columns = record { count = length columns; columns = xor_of columns }
+unknowns_of columns = record { count = length columns % 65536; columns = xor_of columns }
 
 -- each row i has left its columns outside seen i, and its sum is that of its columns in seen i
 pub record IsCounted (m : Matrix) (len : ℕ) (seen : ℕ → Set) (x : ℕ → List ℕ)

@@ -155,7 +155,7 @@ fn see<L: Ledger>(
     if left.count > 1 {
         return true;
     }
-    let d = left.columns;
+    let d = left.columns as u32;
     if known[d as usize] {
         return true;
     }

@@ -1,4 +1,4 @@
--- Rows that lie one after the other in one list of columns.
+-- Lists that lie one after the other in one list of items.
 use Rattle.std.proofs.Common.{◌≡◌, ℕ, zero, suc, ◌+◌, ◌-◌, ◌<◌, ◌≤◌, List, [], ◌∷◌, ◌++◌, All}
 use Rattle.std.proofs.Common.{length, take, drop, get_or, sum_by, refl, sym, ap, ap₂, ◌∙◌, subst}
 use Rattle.std.proofs.Common.{arith, le_of_eq, suc-add, add-one, length-append, length-drop}
@@ -6,11 +6,13 @@ use Rattle.std.specs.List.Sorted.{IsStrictlyIncreasing}
 use Rattle.std.proofs.Math.Seq.{take-length}
 use Rattle.std.proofs.lemmas.List.{length-take-le, take-append-le, drop-append-le, drop_all}
 use Rattle.std.proofs.lemmas.List.{get_or_append_left, take_more, map-append}
-use Rattle.std.proofs.lemmas.List.Sums.{sum_by-cons}
+use Rattle.std.proofs.lemmas.List.{take-map}
+use Rattle.std.proofs.lemmas.List.Sums.{sum_by-cons, sum_by_more_le}
 use Rattle.smallvec.specs.SmallVec.{SmallVec}
-use Rattle.sparse_rows.specs.declared.code.Code.TheInside.{Inside}
+use Rattle.sparse_rows.specs.declared.layout.Layout.TheInside.{Inside}
 use Rattle.sparse_rows.specs.Matrix.{Matrix, IsCode, row_of}
-use Rattle.sparse_rows.specs.Rows.{AreStarts, IsLaidOut, rows_of, lists_of, matrix_of_starts}
+use Rattle.sparse_rows.specs.Rows.{AreStarts, lists_from, lists_of}
+use Rattle.sparse_rows.proofs.Transposed.{length_lists, lists_at}
 
 -- the starts rise to an end
 abbrev pub RisesTo : ℕ → List ℕ → Type 0
@@ -22,7 +24,7 @@ RisesTo end (start ∷ next ∷ starts) = (start ≤ next) × RisesTo end (next 
 pub record AreLaid (starts columns : List ℕ) (rows : List (List ℕ)) : Type 0 where
   pub first : get_or starts 0 0 ≡ 0
   pub rises : RisesTo (length columns) starts
-  pub are : rows_of starts columns ≡ rows
+  pub are : lists_from starts columns ≡ rows
 
 -- row r lies from its start to the next
 pub record IsRowAt (starts columns row : List ℕ) (r : ℕ) : Type 0 where
@@ -97,7 +99,7 @@ rises_push (a ∷ b ∷ starts) end later h le = (h.0, rises_push (b ∷ starts)
 
 -- a row put behind the columns, and their new end behind the starts
 rows_push : (starts columns row : List ℕ) → RisesTo (length columns) starts
-    → rows_of (starts ++ length (columns ++ row) ∷ []) (columns ++ row) ≡ rows_of starts columns
+    → lists_from (starts ++ length (columns ++ row) ∷ []) (columns ++ row) ≡ lists_from starts columns
     ++ row ∷ []
 rows_push [] columns row h = absurd h
 rows_push (a ∷ []) columns row h =
@@ -139,7 +141,7 @@ laid_next rows i row starts columns more_starts more_columns lt is columns_are s
 
 -- the rows have all columns
 pub sum_rows : (start : ℕ) (starts columns : List ℕ) → RisesTo (length columns) (start ∷ starts)
-    → start + sum_by length (rows_of (start ∷ starts) columns) ≡ length columns
+    → start + sum_by length (lists_from (start ∷ starts) columns) ≡ length columns
 sum_rows start [] columns h = omega (arith, h)
 sum_rows start (next ∷ starts) columns h =
     let next_within : next ≤ length columns = start_within next starts (length columns) h.1 in
@@ -152,13 +154,41 @@ sum_rows start (next ∷ starts) columns h =
       long,
       sum_rows next starts columns h.1,
       sum_by-cons length (take (next - start) (drop start columns))
-          (rows_of (next ∷ starts) columns),
+          (lists_from (next ∷ starts) columns),
     )
+
+-- the lists that start at 0 have all items
+pub all_items : (starts items : List ℕ) → AreStarts starts items
+    → length items ≡ sum_by length (lists_from starts items)
+all_items [] items h = absurd (omega (arith, h.some))
+all_items (start ∷ starts) items h =
+    omega (arith, h.first, sum_rows start starts items (starts_rise (start ∷ starts) items h))
+
+-- what was laid so far has as many items as its lists
+pub laid_long : (starts items : List ℕ) (lists : List (List ℕ)) → AreLaid starts items lists
+    → length items ≡ sum_by length lists
+laid_long starts items lists h = all_items starts items (laid_starts starts items lists h)
+    ∙ ap (sum_by length) h.are
+
+-- and with one more no more than all
+pub laid_within : (lists : List (SmallVec ℕ)) (i : ℕ) (list : SmallVec ℕ)
+    (starts items more : List ℕ) → i < length lists → list ≡ get_or lists i list
+    → AreLaid starts items (lists_of (take i lists)) → more ≡ items ++ list.items
+    → length more ≤ sum_by length (lists_of lists)
+laid_within lists i list starts items more lt is h more_is =
+    let all : sum_by length (take i (lists_of lists)) + length (get_or (lists_of lists) i []) ≤ sum_by
+    length (lists_of lists) = sum_by_more_le length (lists_of lists) i [] (rw length_lists lt) in
+    let front : length items ≡ sum_by length (take i (lists_of lists)) =
+    laid_long starts items (lists_of (take i lists)) h
+    ∙ ap (sum_by length) (sym (take-map (λ (x : SmallVec ℕ). x.items) i lists)) in
+    let own : length (get_or (lists_of lists) i []) ≡ length list.items =
+    ap length (lists_at lists i list lt is) in
+    omega (arith, all, front, own, ap length more_is, length-append items list.items)
 
 -- a row of the list is at its place
 pub row_at : (starts columns : List ℕ) → RisesTo (length columns) starts → (r : ℕ)
-    → r < length (rows_of starts columns)
-    → IsRowAt starts columns (get_or (rows_of starts columns) r []) r
+    → r < length (lists_from starts columns)
+    → IsRowAt starts columns (get_or (lists_from starts columns) r []) r
 row_at [] columns h r lt = absurd h
 row_at (a ∷ []) columns h r lt = absurd (omega arith)
 row_at (a ∷ b ∷ starts) columns h zero lt =
@@ -196,19 +226,19 @@ rising_short (x ∷ row) p rising within =
     (length row) (omega arith) in
     omega (arith, last, within (length row) 0 (omega arith))
 
--- each row of a code is at its place, and short
+-- each list of a layout is at its place
 
-pub code_row_at : (a : Inside) {m : Matrix} {starts columns : List ℕ}
-    → IsLaidOut a.k a.n a.starts.items a.columns.items
-    → matrix_of_starts a.k a.n a.starts.items a.columns.items ≡ m
-    → starts ≡ a.starts.items → columns ≡ a.columns.items → (r : ℕ) → r < m.n - m.k
-    → IsRowAt starts columns (row_of m r) r
-code_row_at a h is same_starts same_columns r lt =
-    let count : a.k + length (rows_of a.starts.items a.columns.items) ≡ a.n = h.code.shape.count in
-    let low : r < a.n - a.k = rw (← is) at lt in
-    let here = row_at a.starts.items a.columns.items (starts_rise a.starts.items a.columns.items
-    h.starts_rise) r (omega arith) in
-    rw (same_starts, same_columns, ← is) here
+pub layout_list_at : (l : Inside) {lists : List (List ℕ)} {starts items : List ℕ}
+    → AreStarts l.starts.items l.items.items → lists_from l.starts.items l.items.items ≡ lists
+    → starts ≡ l.starts.items → items ≡ l.items.items → (i : ℕ) → i < length lists
+    → IsRowAt starts items (get_or lists i []) i
+layout_list_at l h is same_starts same_items i lt =
+    let low : i < length (lists_from l.starts.items l.items.items) = rw (← is) at lt in
+    let here = row_at l.starts.items l.items.items (starts_rise l.starts.items l.items.items h) i
+    low in
+    rw (same_starts, same_items, ← is) here
+
+-- the rows of a code are short
 
 pub code_row_short : (m : Matrix) → IsCode m → (r : ℕ) → r < m.n - m.k → length (row_of m r) ≤ 65536
 code_row_short m h r lt =

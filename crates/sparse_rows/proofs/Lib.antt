@@ -15,3 +15,4 @@ pub mod Flat
 pub mod Transposed
 pub mod Entries
 pub mod Tested
+pub mod Sizes

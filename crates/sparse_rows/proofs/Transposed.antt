@@ -22,9 +22,7 @@ use Rattle.sparse_rows.specs.Rows.{columns_in, GainsRow}
 use Rattle.sparse_rows.proofs.Sets.{or_none, true_or_false}
 use Rattle.sparse_rows.proofs.Rising.{before_place}
 use Rattle.smallvec.specs.SmallVec.{SmallVec}
-use Rattle.sparse_rows.specs.declared.code.Code.TheInside.{Inside}
-use Rattle.sparse_rows.specs.Rows.{AreColumns, rows_of, lists_of, matrix_of_starts}
-use Rattle.sparse_rows.proofs.Flat.{IsRowAt, row_at, starts_rise}
+use Rattle.sparse_rows.specs.Rows.{lists_of}
 
 -- a row whose columns lie below one hasn't that one
 pub below_absent : (c : ℕ) (row : List ℕ) → All (λ x. x < c) row → is_in row c ≡ false
@@ -148,26 +146,7 @@ lists_set (x ∷ rows) zero row lt = refl
 lists_set (x ∷ rows) (suc c) row lt = ap (λ (xs : List (List ℕ)). x.items ∷ xs)
     (lists_set rows c row (omega arith))
 
--- each column of a code is at its place, and short
-
-pub code_column_at : (a : Inside) {m : Matrix} {starts rows : List ℕ}
-    → AreColumns (matrix_of_starts a.k a.n a.starts.items a.columns.items) a.column_starts.items
-    a.column_rows.items → matrix_of_starts a.k a.n a.starts.items a.columns.items ≡ m
-    → starts ≡ a.column_starts.items → rows ≡ a.column_rows.items → (c : ℕ) → c < m.n
-    → IsRowAt starts rows (column_of m c) c
-code_column_at a {m} {starts} {rows} h is same_starts same_rows c lt =
-    let here : c < a.n = rw (← is) at lt in
-    let long : length (rows_of a.column_starts.items a.column_rows.items) ≡ a.n = ap length h.are
-    ∙ length_columns a.n (rows_of a.starts.items a.columns.items) in
-    let at_place = row_at a.column_starts.items a.column_rows.items
-    (starts_rise a.column_starts.items a.column_rows.items h.starts_rise) c
-    (omega (arith, long)) in
-    let found : get_or (rows_of a.column_starts.items a.column_rows.items) c [] ≡ column_in
-    (rows_of a.starts.items a.columns.items) c = ap (λ (xs : List (List ℕ)). get_or xs c [])
-    h.are ∙ column_at a.n (rows_of a.starts.items a.columns.items) c here in
-    subst (λ (z : Matrix). IsRowAt starts rows (column_of z c) c) is
-    (rw (same_starts, same_rows) (subst (λ (row : List ℕ). IsRowAt a.column_starts.items
-    a.column_rows.items row c) found at_place))
+-- each column of a code is short
 
 pub code_column_short : (m : Matrix) → IsCode m → (c : ℕ) → length (column_of m c) ≤ 65536
 code_column_short m h c =

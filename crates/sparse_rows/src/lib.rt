@@ -10,6 +10,7 @@ mod builder;
 mod by_column;
 mod code;
 mod laws;
+mod layout;
 
 pub use builder::RowsBuilder;
 pub use code::Code;

@@ -1,3 +1,4 @@
 pub mod Memory
 pub mod Lends
 pub mod Laid
+pub mod Zeros

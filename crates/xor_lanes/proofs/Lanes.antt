@@ -71,18 +71,19 @@ zero_bytes s h = ext_get_or 0 s (zero_symbol (length s)) (sym (length_zero (leng
 pub bytes_zero : (s : List ℕ) → s ≡ zero_symbol (length s) → (k : ℕ) → get_or s k 0 ≡ 0
 bytes_zero s e k = ap (λ (xs : List ℕ). get_or xs k 0) e ∙ byte_zero (length s) k
 
--- a lane is zero where the mask of its other bytes is
-pub lane_from_mask : (at : ℕ) (s : List ℕ) → at + 32 ≤ length s
-    → mask_l (map (λ x. not (nat_eq x 0)) (chunk at 32 s)) ≡ 0 → (k : ℕ) → at ≤ k → k < at + 32
+-- a lane of w bytes is zero where the mask of its other bytes is
+pub lane_from_mask : (w at : ℕ) (s : List ℕ) → at + w ≤ length s
+    → mask_l (map (λ x. not (nat_eq x 0)) (chunk at w s)) ≡ 0 → (k : ℕ) → at ≤ k → k < at + w
     → get_or s k 0 ≡ 0
-lane_from_mask at s room e k le lt = eqb-true (get_or s k 0) 0 (not-false (nat_eq (get_or s k 0) 0)
-    (none_from_empty_mask (λ x. not (nat_eq x 0)) s at 32 0 room e k le lt))
+lane_from_mask w at s room e k le lt = eqb-true (get_or s k 0) 0
+    (not-false (nat_eq (get_or s k 0) 0)
+    (none_from_empty_mask (λ x. not (nat_eq x 0)) s at w 0 room e k le lt))
 
-pub mask_from_lane : (at : ℕ) (s : List ℕ) → at + 32 ≤ length s
-    → ((k : ℕ) → at ≤ k → k < at + 32 → get_or s k 0 ≡ 0)
-    → mask_l (map (λ x. not (nat_eq x 0)) (chunk at 32 s)) ≡ 0
-mask_from_lane at s room h =
-    no_mask (λ x. not (nat_eq x 0)) (chunk at 32 s)
-    (λ j lt. let is : get_or (chunk at 32 s) j 0 ≡ 0 = get_or-chunk at 32 s j 0
-    (omega (arith, length-chunk at 32 s room))
-    ∙ h (at + j) (omega arith) (omega (arith, length-chunk at 32 s room)) in rw is refl)
+pub mask_from_lane : (w at : ℕ) (s : List ℕ) → at + w ≤ length s
+    → ((k : ℕ) → at ≤ k → k < at + w → get_or s k 0 ≡ 0)
+    → mask_l (map (λ x. not (nat_eq x 0)) (chunk at w s)) ≡ 0
+mask_from_lane w at s room h =
+    no_mask (λ x. not (nat_eq x 0)) (chunk at w s)
+    (λ j lt. let is : get_or (chunk at w s) j 0 ≡ 0 = get_or-chunk at w s j 0
+    (omega (arith, length-chunk at w s room))
+    ∙ h (at + j) (omega arith) (omega (arith, length-chunk at w s room)) in rw is refl)

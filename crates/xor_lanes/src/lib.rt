@@ -1,4 +1,4 @@
-//! Sums of symbols and the test for the zero symbol, in lanes of 32 and tiles of 64 bytes. It
+//! Sums of symbols and the test for the zero symbol, in lanes of 16 and 32 and tiles of 64 bytes. It
 //! stands on `fec_base`, which says what the sum of two symbols is. It promises that each call
 //! gives exactly what a plain loop over the bytes gives, at every length. It takes no memory.
 #![tactic(auto)]
@@ -53,13 +53,46 @@ pub fn is_zero(s: &[u8]) -> bool
         }
         at += 32;
     }
-    while at < s.len() {
+    is_rest_zero(s, at)
+}
+
+// Whether each byte from `from` on is zero.
+#[inline(always)]
+fn is_rest_zero(s: &[u8], from: usize) -> bool
+    requires { from ≤ length s.now }
+    ensures { IsTrue result
+        ↔ ((k : ℕ) → from ≤ k → k < length s.now → slice_index_or s.now k 0 ≡ 0) }
+{
+    if from + 16 > s.len() {
+        return is_tail_zero(s, from);
+    }
+    is_half_zero(s, from) && is_tail_zero(s, from + 16)
+}
+
+// Whether each byte from `from` on is zero, seen one by one.
+fn is_tail_zero(s: &[u8], from: usize) -> bool
+    requires { from ≤ length s.now }
+    ensures { IsTrue result
+        ↔ ((k : ℕ) → from ≤ k → k < length s.now → slice_index_or s.now k 0 ≡ 0) }
+{
+    for at in from..s.len() {
         if s[at] != 0 {
             return false;
         }
-        at += 1;
     }
     true
+}
+
+// Whether the 16 bytes from `at` on are zero.
+#[inline(always)]
+fn is_half_zero(s: &[u8], at: usize) -> bool
+    requires { at + 16 ≤ length s.now }
+    ensures { IsTrue result ↔ ((k : ℕ) → at ≤ k → k < at + 16 → slice_index_or s.now k 0 ≡ 0) }
+{
+    u8x16::from_slice(&s[at..])
+        .simd_ne(u8x16::splat(0))
+        .to_bitmask()
+        == 0
 }
 
 // Whether the 32 bytes from `at` on are zero.

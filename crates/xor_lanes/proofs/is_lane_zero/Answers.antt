@@ -10,6 +10,6 @@ returns c =
     let at : ℕ = c.args.at in
     let mask = bitmask_splat w8 (λ a b. not (nat_eq a b)) (chunk at 32 c.args.s.now) 32 0
     (length-chunk at 32 c.args.s.now c.requires) (omega arith) in (
-      λ t. lane_from_mask at c.args.s.now c.requires (sym mask ∙ eqb-true _ 0 t),
-      λ h. eq-eqb _ 0 (mask ∙ mask_from_lane at c.args.s.now c.requires h),
+      λ t. lane_from_mask 32 at c.args.s.now c.requires (sym mask ∙ eqb-true _ 0 t),
+      λ h. eq-eqb _ 0 (mask ∙ mask_from_lane 32 at c.args.s.now c.requires h),
     )

@@ -1,4 +1,4 @@
-use Rattle.std.proofs.Common.{refl, arith, ⊎_elim}
+use Rattle.std.proofs.Common.{arith, ⊎_elim}
 use Rattle.std.proofs.lemmas.Bool.{cases_lt}
 use Rattle.xor_lanes.proofs.Lanes.{zero_bytes, bytes_zero}
 use Rattle.xor_lanes.proofs.is_zero.Goals as goal
@@ -23,7 +23,7 @@ loop-at-preserved c = record {
 
 pub returns : goal.returns
 returns c = (
-  λ t. zero_bytes c.args.s.now (λ k lt. c.loop-at-2.invariant.zero k
-      (omega (arith, c.loop-at-2-test.false))),
-  λ e. refl,
+  λ t. zero_bytes c.args.s.now (λ k lt. ⊎_elim (λ low. c.loop-at.invariant.zero k low)
+      (λ high. c.is_rest_zero.ensures.0 t k high lt) (cases_lt k c.loop-at.at)),
+  λ e. c.is_rest_zero.ensures.1 (λ k le lt. bytes_zero c.args.s.now e k),
 )

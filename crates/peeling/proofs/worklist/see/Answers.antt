@@ -4,7 +4,8 @@ use Rattle.sparse_rows.specs.Closure.{Set, flagged}
 use Rattle.sparse_rows.proofs.Sets.{or_first}
 use Rattle.peeling.specs.Peeled.{unset_count}
 use Rattle.peeling.proofs.Flags.{flagged_set, unset_less}
-use Rattle.peeling.proofs.Seen.{row_within, row_inside, column_inside, cells_long, next_long, some}
+use Rattle.peeling.proofs.Seen.{row_within, row_inside, column_inside, cells_long, next_long}
+use Rattle.peeling.proofs.Seen.{column_short}
 use Rattle.peeling.proofs.Seen.{left_below, worked_none, worked_some, worked_one}
 use Rattle.peeling.proofs.Listed.{listed_push}
 use Rattle.peeling.proofs.worklist.see.Goals as goal
@@ -16,10 +17,10 @@ slice_copy_out-without g c = row_inside c.args.code.now c.requires.code c.requir
     c.requires.worked.7.counted c.requires.column
 
 pub without-left-requires : goal.without-left-requires
-without-left-requires g c = some c.args.code.now c.requires.code c.requires.worked.0 c.args.c
-    c.args.i c.requires.place c.col_entry-r.result c.col_entry-r.ensures.value c.requires.worked.1
-    c.requires.worked.6 c.args.known.now c.args.symbols.now c.args.rows.now c.requires.worked.7.kept
-    c.requires.worked.7.counted c.requires.column (record { count = 0; columns = 0 })
+without-left-requires g c = column_short c.args.code.now c.requires.code c.requires.worked.0
+    c.args.c c.args.i c.requires.place c.col_entry-r.result c.col_entry-r.ensures.value
+    c.requires.worked.1 c.requires.worked.6 c.args.known.now c.args.symbols.now c.args.rows.now
+    c.requires.worked.7.kept c.requires.worked.7.counted c.requires.column
 
 pub bounds-rows-r : goal.bounds-rows-r
 bounds-rows-r g c = row_inside c.args.code.now c.requires.code c.requires.worked.0 c.args.c c.args.i
