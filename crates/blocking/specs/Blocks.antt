@@ -1,5 +1,5 @@
 -- How an object is cut into source blocks (RFC 5052, section 9.1).
-use Rattle.std.specs.Prelude.{ℕ, ◌-◌, ◌*◌, ◌/◌, List, ◌++◌, replicate}
+use Rattle.std.specs.Prelude.{ℕ, ◌+◌, ◌-◌, ◌*◌, ◌/◌, List, ◌++◌, min, replicate}
 use Rattle.std.specs.Int.{div_ceil}
 
 -- how many source symbols an object of so many bytes has
@@ -24,3 +24,8 @@ block_sizes size len most = spread (symbol_total size len) (block_count size len
 -- and `greatest_n`
 abbrev pub scaled : ℕ → ℕ → ℕ → ℕ
 scaled k most greatest_n = k * greatest_n / most
+
+-- how many encoding symbols k source symbols have in a grid of w columns, row by row: the source
+-- symbols, a parity for each row of the grid, and one for each of its columns
+abbrev pub size_2d : ℕ → ℕ → ℕ
+size_2d k w = k + div_ceil k w + min w k

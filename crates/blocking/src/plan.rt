@@ -1,7 +1,7 @@
 // The source blocks of an object.
 ghost use Rattle.std.specs.Prelude.{◌≡◌, ◌<◌, ◌≤◌, ◌*◌, length, slice_index, sum, take, IfOk, OnOk};
 ghost use Rattle.std.specs.Prelude.{OnErr};
-ghost use Rattle.blocking.specs.Blocks.{block_count, block_sizes, scaled};
+ghost use Rattle.blocking.specs.Blocks.{block_count, block_sizes, scaled, size_2d};
 
 use std::error::Error;
 use std::fmt;
@@ -120,4 +120,15 @@ pub fn ldpc_n(k: u32, b: u32, max_n: u32) -> u32
     ensures most { result ≤ max_n }
 {
     (k as u64 * max_n as u64 / b as u64) as u32
+}
+
+/// How many encoding symbols `k` source symbols in a grid of this width have: the source symbols,
+/// one repair symbol for each row of the grid (the last row may be in part), and one for each
+/// column that holds a symbol.
+pub fn size_2d(k: u32, width: u32) -> u64
+    requires some { 1 ≤ k }
+    requires wide { 1 ≤ width }
+    ensures { result ≡ size_2d k width }
+{
+    k as u64 + k.div_ceil(width) as u64 + width.min(k) as u64
 }

@@ -1,6 +1,6 @@
 -- What may be wrong with the fields of the transmission information.
 use Rattle.std.specs.Prelude.{ℕ, ◌==◌, ◌&&◌, not, nat_lt, nat_le, if◌then◌else◌, Option, Some, None}
-use Rattle.parity_2d.specs.Grid.{size_2d}
+use Rattle.blocking.specs.Blocks.{size_2d}
 use Rattle.oti_fields.specs.declared.codec.Codec.{Codec}
 use Rattle.oti_fields.specs.declared.codec.Codec.TheVariants.{Staircase, Triangle, Parity2d}
 use Rattle.oti_fields.specs.declared.oti.Oti.{Oti}

@@ -4,7 +4,7 @@ ghost use Rattle.oti_fields.specs.Fields.{FitsBits};
 ghost use Rattle.oti_fields.specs.Faults.{fault_number, field_fault, grid_fault, seed_fault};
 
 use crate::{Codec, Oti};
-use parity_2d::size_2d;
+use blocking::size_2d;
 use park_miller::MAX_SEED;
 use std::error::Error;
 use std::fmt;

@@ -1,5 +1,5 @@
 //! The FEC object transmission information and the payload identifier of RFC 5170, as fields and as
-//! bytes. It stands on `parity_2d` for the size of a grid, and promises that fields go both ways,
+//! bytes. It stands on `blocking` for the size of a grid, and promises that fields go both ways,
 //! and that the first of the faults that fields may have is named.
 #![tactic(auto)]
 

@@ -10,7 +10,7 @@ use Rattle.std.proofs.lemmas.Nat.{le-div}
 use Rattle.std.proofs.lemmas.List.Elements.{All-append, All-replicate, All-head, All-tail}
 use Rattle.std.proofs.lemmas.List.Elements.{All-get_or}
 use Rattle.std.specs.List.{list_any}
-use Rattle.parity_2d.specs.Grid.{size_2d}
+use Rattle.blocking.specs.Blocks.{size_2d}
 use Rattle.blocking.specs.Blocks.{block_count, scaled, spread, symbol_total}
 use Rattle.blocking.proofs.Spread.{ceil_most, ceil_room, sizes_in_range}
 use Rattle.oti_fields.specs.Faults.{codec_fault, field_fault, grid_fault}

@@ -2,7 +2,7 @@
 use Rattle.std.specs.Prelude.{◌≡◌, ℕ, ◌*◌, Bool, nat_lt, if◌then◌else◌, List, ◌∷◌, ◌++◌, Option}
 use Rattle.std.specs.Prelude.{Some, None, map, sum, codes}
 use Rattle.std.specs.List.{list_any}
-use Rattle.parity_2d.specs.Grid.{size_2d}
+use Rattle.blocking.specs.Blocks.{size_2d}
 use Rattle.blocking.specs.Blocks.{block_count, block_sizes, scaled}
 use Rattle.oti_fields.specs.Fields.{FitsBits, codec_number, oti_bytes}
 use Rattle.oti_fields.specs.Faults.{field_fault}

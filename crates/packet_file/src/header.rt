@@ -9,9 +9,8 @@ ghost use Rattle.packet_file.specs.Packets.{block_symbols};
 ghost use Rattle.blocking.specs.Blocks.{block_count};
 
 use crate::{FileFault, Limit};
-use blocking::{Plan, TooManyBlocks, ldpc_n};
+use blocking::{Plan, TooManyBlocks, ldpc_n, size_2d};
 use oti_fields::{Codec, Oti};
-use parity_2d::size_2d;
 use std::marker::Model;
 
 // The limits of a file's sizes.

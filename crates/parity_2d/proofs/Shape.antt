@@ -11,7 +11,8 @@ use Rattle.std.proofs.lemmas.List.Elements.{All-append, All-map}
 use Rattle.std.proofs.lemmas.List.FromFn.{length-map-range_with_len, get_or-map-range_with_len}
 use Rattle.std.proofs.lemmas.List.FromFn.{fill_by_all}
 use Rattle.sparse_rows.specs.Matrix.{Matrix, row_of, IsRow, HasShape}
-use Rattle.parity_2d.specs.Grid.{size_2d, grid_row, grid_column, grid_matrix}
+use Rattle.parity_2d.specs.Grid.{grid_row, grid_column, grid_matrix}
+use Rattle.blocking.specs.Blocks.{size_2d}
 use Rattle.parity_2d.specs.Filling.{source_rows, with_parities}
 use Rattle.parity_2d.proofs.Classes.{class_below}
 use Rattle.parity_2d.proofs.Rows.{row_is}

@@ -3,11 +3,7 @@ use Rattle.std.specs.Prelude.{ℕ, ◌+◌, ◌/◌, ◌%◌, ◌==◌, min, Lis
 use Rattle.std.specs.Int.{div_ceil}
 use Rattle.std.specs.List.{range_with_len}
 use Rattle.sparse_rows.specs.Matrix.{Matrix}
-
--- the number of encoding symbols: the source symbols, a parity for each row of the grid, and one
--- for each of its columns
-abbrev pub size_2d : ℕ → ℕ → ℕ
-size_2d k w = k + div_ceil k w + min w k
+use Rattle.blocking.specs.Blocks.{size_2d}
 
 -- the source symbols in row i of the grid
 abbrev pub grid_row : ℕ → ℕ → ℕ → List ℕ

@@ -2,23 +2,13 @@
 ghost use Rattle.std.specs.Prelude.{◌≡◌, ◌≤◌, ◌<◌, ◌+◌, min, replicate, [], length, All, IfOk};
 ghost use Rattle.std.specs.Prelude.{OnOk};
 ghost use Rattle.std.specs.Int.{div_ceil};
-ghost use Rattle.parity_2d.specs.Grid.{grid_matrix, size_2d};
+ghost use Rattle.blocking.specs.Blocks.{size_2d};
+ghost use Rattle.parity_2d.specs.Grid.{grid_matrix};
 ghost use Rattle.parity_2d.specs.Filling.{source_rows, with_parities};
 
 use fec_base::NoMemory;
 use sparse_rows::{Code, RowsBuilder};
 use std::alloc::Global;
-
-/// How many encoding symbols `k` source symbols in a grid of this width have: the source symbols,
-/// one repair symbol for each row of the grid (the last row may be in part), and one for each
-/// column that holds a symbol.
-pub fn size_2d(k: u32, width: u32) -> u64
-    requires some { 1 ≤ k }
-    requires wide { 1 ≤ width }
-    ensures { result ≡ size_2d k width }
-{
-    k as u64 + k.div_ceil(width) as u64 + width.min(k) as u64
-}
 
 /// The code of `k` source symbols in a grid of this width. Row i of the matrix sums row i of the
 /// grid and its repair symbol; the rows for the grid's columns follow. It takes one pass over the

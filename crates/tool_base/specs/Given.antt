@@ -5,7 +5,7 @@ use Rattle.std.specs.Prelude.{if◌then◌else◌, option_and_then, unwrap_or, i
 use Rattle.std.specs.Option.{option_map_or}
 use Rattle.std.specs.List.{list_any}
 use Rattle.std.specs.Str.{bytes_eq}
-use Rattle.parity_2d.specs.Grid.{size_2d}
+use Rattle.blocking.specs.Blocks.{size_2d}
 use Rattle.oti_fields.specs.declared.codec.Codec.{Codec}
 use Rattle.oti_fields.specs.declared.codec.Codec.TheVariants.{Staircase, Parity2d}
 use Rattle.loss_patterns.specs.Kinds.{loss_of}

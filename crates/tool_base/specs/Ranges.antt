@@ -1,6 +1,6 @@
 -- The ranges of the options of a command.
 use Rattle.std.specs.Prelude.{◌≡◌, ◌≤◌, ℕ}
-use Rattle.parity_2d.specs.Grid.{size_2d}
+use Rattle.blocking.specs.Blocks.{size_2d}
 use Rattle.oti_fields.specs.declared.codec.Codec.TheVariants.{Parity2d}
 use Rattle.loss_patterns.specs.Ranges.{IsLoss}
 use Rattle.loss_patterns.specs.declared.kind.LossKind.{LossKind}

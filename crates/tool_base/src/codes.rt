@@ -1,6 +1,6 @@
 // The code of a source block, of a file or by itself.
 ghost use Rattle.std.specs.Prelude.{◌≡◌, ◌≢◌, ◌≤◌, ◌<◌, length, slice_index, Some, None, IfOk};
-ghost use Rattle.parity_2d.specs.Grid.{size_2d};
+ghost use Rattle.blocking.specs.Blocks.{size_2d};
 ghost use Rattle.oti_fields.specs.declared.codec.Codec.TheVariants.{Parity2d};
 ghost use Rattle.packet_file.specs.Header.{source_counts};
 ghost use Rattle.packet_file.specs.Packets.{block_symbols};

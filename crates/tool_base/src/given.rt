@@ -1,6 +1,6 @@
 // The values that are given, or the defaults, once the table has let them pass.
 ghost use Rattle.std.specs.Prelude.{◌≡◌, ◌≤◌, ◌∷◌, [], IfSome};
-ghost use Rattle.parity_2d.specs.Grid.{size_2d};
+ghost use Rattle.blocking.specs.Blocks.{size_2d};
 ghost use Rattle.oti_fields.specs.declared.codec.Codec.TheVariants.{Parity2d};
 ghost use Rattle.loss_patterns.specs.Ranges.{IsLoss};
 ghost use Rattle.tool_base.specs.Reading.{given_of, listed, numbered_option, ranged};
@@ -12,10 +12,10 @@ ghost use Rattle.tool_base.specs.Given.{symbols_given, symbols_wanted};
 use crate::Shape;
 use crate::options::{NumberRow, OptionRow, RangeRow, read_codec};
 use crate::table::{CODEC, DRAWS, LOSS, N1, ORDER, SEED, WIDTH};
+use blocking::size_2d;
 use clap::ArgMatches;
 use loss_patterns::{LossKind, read_loss, read_number};
 use oti_fields::Codec;
-use parity_2d::size_2d;
 
 // The number that is given, where it is one of the option's.
 pub fn number_given(given: &ArgMatches, option: &RangeRow) -> Option<u32>
