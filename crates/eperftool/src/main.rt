@@ -1,58 +1,14 @@
-//! The program `eperftool`: words and an input in, a packet file or its object and a report out.
-//! `run` is its top call, whose contract says what a user gets; `main` hands it the standard
-//! streams. It stands on `tool_base` for the words and for the code of a block, on `packet_file`
-//! for headers and packets, on `packet_pass` for packet files with losses and their lines, on
-//! `loss_runs` for runs of a decoder under losses, on
-//! `fec_session` for codewords and decoders, on `peeling` and `sparse_rows` for definitions that
-//! its contracts cite, and on `fec_base` for the outside.
+//! The program `eperftool`: `main` hands `run` its words and the standard streams, and ends with the
+//! status that it gives. What a run does stands in `tool_commands`.
 #![tactic(auto)]
 
-mod block_codes;
-mod decode;
-mod encode;
-mod ending;
-mod laws;
-mod object;
-mod options;
-mod outcome;
-mod pass_run;
-mod perf;
-mod receive;
-mod refusal;
-mod report;
-mod run;
-mod staging;
-mod write;
-
-pub use block_codes::{block_codes, build_codes, find_code};
-pub use decode::decode;
-pub use encode::{Made, STAGING_LEN, encode};
-pub use ending::{Ended, conclude, tell};
 use fec_base::{NoMemory, ProgressWatch, ReadSource, Watch, Words, WriteSink};
-pub use laws::{
-    all_packets_give_the_object, chosen_packets_are_decoded, chosen_packets_decode_right,
-    codes_are_tried, decode_undoes_encode, null_words_decide_what_comes_back, objects_are_encoded,
-    one_encoding_for_each_object, one_outcome_for_each_file, one_reading_for_each_file,
-    one_text_for_each_perf, outcomes_go_by_the_set_of_packets, packet_files_are_decoded,
-    packet_files_are_passed, packet_files_have_no_fault, what_is_told_is_of_the_file,
-    what_was_encoded_is_decoded, what_was_encoded_is_never_decoded_wrong,
-};
-pub use object::read_object;
-pub use options::{EncodeOptions, PerfOptions};
-pub use outcome::{outcome_status, put_decode_report};
-pub use pass_run::run_pass;
-pub use perf::perf;
-pub use receive::{Received, receive};
-pub use refusal::{Refusal, refuse};
-use report::put_numbered;
-pub use run::run;
-pub use staging::Staging;
 use std::alloc::Global;
 use std::env;
 use std::io::{BufReader, ErrorKind};
 use std::process::ExitCode;
 use tool_base::Status;
-pub use write::{WriteRefusal, write_file};
+pub use tool_commands::{Ended, run};
 
 // The input is read in pieces of this length, whatever the reads ask for.
 const INPUT_BUFFER_LEN: usize = 262_144;
@@ -100,6 +56,3 @@ fn main(rt: HostRuntime) -> ExitCode {
     };
     ExitCode::from(code)
 }
-
-#[cfg(test)]
-mod tests;

@@ -1,8 +1,8 @@
 //! The parity check matrix of two-dimensional parity: the source symbols of a block fill a grid of
 //! a given width row by row, and each row and each column of the grid has one repair symbol, the
 //! sum of its source symbols. There is no corner symbol. The crate stands on `sparse_rows`, and on
-//! `blocking` for the count of its symbols, and
-//! promises that the matrix is this grid, stated without the loop that fills it.
+//! `blocking` for the size of a grid. It promises that the matrix is this grid, stated without the
+//! loop that fills it.
 #![tactic(auto)]
 
 mod grid;

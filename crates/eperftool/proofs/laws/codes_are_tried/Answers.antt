@@ -1,6 +1,0 @@
-use Rattle.eperftool.proofs.PerfRuns.{comes_through}
-use Rattle.eperftool.proofs.laws.codes_are_tried.Goals as goal
-
-pub returns : goal.returns
-returns c o built before after ended small builds clean run = comes_through o built before after
-    ended small builds clean run

@@ -1,0 +1,14 @@
+mod Arrivals
+mod Building
+mod Copied
+pub mod Cores
+mod ObjectRead
+pub mod Passing
+pub mod SourceBlocks
+mod Taking
+pub mod Telling
+mod Written
+pub mod Codewords
+mod PacketRuns
+mod Refusing
+pub mod Standing

@@ -1,0 +1,225 @@
+-- Where a run stands, with one packet more.
+use Rattle.std.proofs.Common.{◌≡◌, ◌≢◌, ℕ, ◌<◌, ◌≤◌, Bool, true, List, [], ◌∷◌, ◌++◌, length}
+use Rattle.std.proofs.Common.{slice_index_or, Option, ⊎_elim, inl, inr, ◌⊎◌, refl, sym, ap, ◌∙◌}
+use Rattle.std.proofs.Common.{subst, arith, append-nil, length-append, eq-or-lt_of_le}
+use Rattle.std.specs.Io.KnownBytes.{Consumes}
+use Rattle.std.proofs.KnownBytes.{Consumes-nil, Consumes-trans}
+use Rattle.std.proofs.lemmas.List.{take-append-le, take_all}
+use Rattle.std.proofs.lemmas.List.Elements.{All-nil, All-push}
+use Rattle.std.proofs.lemmas.List.Concat.{flat_map-append}
+use Rattle.fec_base.specs.Told.{GrowsTold, KeepsTold, Telling}
+use Rattle.sparse_rows.specs.Matrix.{Matrix}
+use Rattle.peeling.specs.Decoder.{Decoder}
+use Rattle.fec_session.specs.Forced.{RebuildsBy, RebuiltAreForced}
+use Rattle.fec_session.specs.Session.{TellsFront, rebuilt}
+use Rattle.packet_file.specs.Header.{HeaderFields}
+use Rattle.packet_file.specs.Faults.{HasPacketFault}
+use Rattle.packet_file.specs.Packets.{packet_bytes}
+use Rattle.packet_file.specs.declared.fault.FileFault.{FileFault}
+use Rattle.packet_file.specs.declared.fault.FileFault.TheVariants.{ShortHeader, BadMagic}
+use Rattle.packet_file.specs.declared.fault.FileFault.TheVariants.{BadVersion, BadCodec}
+use Rattle.packet_file.specs.declared.fault.FileFault.TheVariants.{BadReserved, Field, ShortPacket}
+use Rattle.packet_file.specs.declared.fault.FileFault.TheVariants.{NoSuchBlock, NoSuchSymbol}
+use Rattle.packet_file.specs.declared.fault.FileFault.TheVariants.{TooLarge, TooManyBlocks}
+use Rattle.packet_file.specs.declared.fault.FileFault.TheVariants.{TooManyPackets, ReadFault}
+use Rattle.object_file.specs.Received.{arrivals_of}
+use Rattle.packet_file.specs.Packets.{IsPacketOf, Packet, spelled}
+use Rattle.object_file.specs.Receiving.{AreCores, TakesPacket}
+use Rattle.object_file.specs.Receiving.{FailsAtOne}
+use Rattle.object_file.specs.Reception.{FailsAtPackets}
+use Rattle.object_file.specs.Taken.{TakesSome}
+use Rattle.fec_base.specs.Outside.{hearing, stream}
+use Rattle.object_file.specs.Told.{AreTaken, IsWhole, StandsAt, StandsWithin, TellsOf, told_places}
+use Rattle.object_file.specs.declared.causes.Refusal.{Refusal}
+use Rattle.object_file.specs.declared.causes.Refusal.TheVariants.{Memory, File, Draws, Watch}
+use Rattle.object_file.proofs.Cores.{new_is, new_len, new_matrix, old_stands}
+use Rattle.object_file.proofs.Telling.{keeps_same, tells_all, tells_front, tells_kept, tells_none}
+use Rattle.object_file.proofs.Telling.{told_places_more}
+
+-- what was taken, and then more
+pub some_behind : (left mid now : Option (List ℕ)) → TakesSome left mid → TakesSome mid now
+    → TakesSome left now
+some_behind left mid now (bytes, taken) (more, after) =
+    (bytes ++ more, Consumes-trans left mid now bytes more taken after)
+
+-- what the packets spell, with one more
+spelled_more : (packets : List Packet) (p : Packet) → spelled (packets ++ p ∷ []) ≡ spelled packets
+    ++ packet_bytes p.0 p.1
+spelled_more packets p = flat_map-append (λ (a : Packet). packet_bytes a.0 a.1) packets (p ∷ [])
+    ∙ ap (λ l. spelled packets ++ l) (append-nil (packet_bytes p.0 p.1))
+
+-- the input failed, or the bytes show a fault
+pub read_or_other : (fault : FileFault) → (fault ≡ ReadFault) ⊎ (fault ≢ ReadFault)
+read_or_other ReadFault = inl refl
+read_or_other (ShortHeader have) = inr (λ same. cc)
+read_or_other BadMagic = inr (λ same. cc)
+read_or_other (BadVersion version) = inr (λ same. cc)
+read_or_other (BadCodec number) = inr (λ same. cc)
+read_or_other BadReserved = inr (λ same. cc)
+read_or_other (Field field) = inr (λ same. cc)
+read_or_other (ShortPacket index have) = inr (λ same. cc)
+read_or_other (NoSuchBlock index sbn) = inr (λ same. cc)
+read_or_other (NoSuchSymbol index esi) = inr (λ same. cc)
+read_or_other (TooLarge limit) = inr (λ same. cc)
+read_or_other TooManyBlocks = inr (λ same. cc)
+read_or_other TooManyPackets = inr (λ same. cc)
+
+module _ (h : HeaderFields) (code : ℕ → Matrix) (early : Bool) (most : ℕ) where
+  -- no packet was taken yet
+  taken_none : AreTaken h code early most []
+  taken_none = record {
+    each = All-nil (IsPacketOf h);
+    few = omega arith;
+    least = λ is i lt. absurd (omega (arith, lt));
+  }
+
+  -- one more, where more was wanted
+  taken_more : (packets : List Packet) (p : Packet) → AreTaken h code early most packets
+      → IsPacketOf h p → length packets < most → (early ≡ true → ¬ IsWhole h code packets)
+      → AreTaken h code early most (packets ++ p ∷ [])
+  taken_more packets p are of_file few wanted = record {
+    each = All-push (IsPacketOf h) packets p are.each of_file;
+    few = omega (arith, few, length-append packets (p ∷ []));
+    least = λ is i lt. ⊎_elim
+        (λ (same : i ≡ length packets). subst (λ l. ¬ IsWhole h code l)
+        (sym (take-append-le i packets (p ∷ []) (omega (arith, same))
+        ∙ take_all i packets (omega (arith, same)))) (wanted is))
+        (λ (less : i < length packets). subst (λ l. ¬ IsWhole h code l)
+        (sym (take-append-le i packets (p ∷ []) (omega (arith, less)))) (are.least is i less))
+        (eq-or-lt_of_le (omega (arith, lt, length-append packets (p ∷ []))));
+  }
+
+  -- a run stands at no packet
+  pub stands_none : (left : Option (List ℕ)) (told : Option (List Telling))
+      → StandsAt h code early most left left told told [] []
+  stands_none left told = record {
+    packets_are = taken_none;
+    taken = Consumes-nil left;
+    told_of = tells_none code h.oti.symbol told;
+  }
+
+  -- and then bytes that are no packet of it, with nothing told
+  pub stands_before : (left mid now : Option (List ℕ))
+      (told told_mid told_now : Option (List Telling)) (packets : List Packet) (piece : List ℕ)
+      → StandsAt h code early most left mid told told_mid packets [] → Consumes mid now piece
+      → KeepsTold told_mid told_now → StandsAt h code early most left now told told_now packets
+      piece
+  stands_before left mid now told told_mid told_now packets piece stands taken kept = record {
+    packets_are = stands.packets_are;
+    taken = Consumes-trans left mid now (spelled packets) piece
+        (subst (Consumes left mid) (append-nil (spelled packets)) stands.taken) taken;
+    told_of = tells_kept code h.oti.symbol packets (told_places code packets) told told_mid told_now
+        stands.told_of kept;
+  }
+
+  -- some bytes were taken
+  pub taken_some : (left now : Option (List ℕ)) (told told_now : Option (List Telling))
+      (packets : List Packet) (rest : List ℕ) → StandsAt h code early most left now told told_now
+      packets rest → TakesSome left now
+  taken_some left now told told_now packets rest stands = (spelled packets ++ rest, stands.taken)
+
+  -- and then the input's end, with nothing told
+  pub stands_at_end : (left mid now : Option (List ℕ))
+      (told told_mid told_now : Option (List Telling)) (packets : List Packet)
+      → StandsAt h code early most left mid told told_mid packets [] → Consumes mid now []
+      → told_now ≡ told_mid → StandsAt h code early most left now told told_now packets []
+  stands_at_end left mid now told told_mid told_now packets stands nothing same =
+      stands_before left mid now told told_mid told_now packets [] stands nothing
+      (subst (KeepsTold told_mid) (sym same) (keeps_same told_mid))
+
+  -- and then one packet more, of which is told whatever it makes known, or a front of it
+  module _ (forced : RebuiltAreForced) (left mid now : Option (List ℕ))
+      (told told_mid told_now : Option (List Telling)) (packets : List Packet)
+      (decoders decoders_now : List Decoder) (p : Packet)
+      (stands : StandsAt h code early most left mid told told_mid packets [])
+      (cores : AreCores h code packets decoders) (few : length packets < most)
+      (wanted : early ≡ true → ¬ IsWhole h code packets)
+      (takes : TakesPacket mid now h decoders decoders_now p) where
+    its : AreTaken h code early most (packets ++ p ∷ [])
+    its = taken_more packets p stands.packets_are takes.of_file few wanted
+
+    bytes : Consumes left now (spelled (packets ++ p ∷ []))
+    bytes = subst (Consumes left now) (sym (spelled_more packets p))
+        (Consumes-trans left mid now (spelled packets) (packet_bytes p.0 p.1)
+        (subst (Consumes left mid) (append-nil (spelled packets)) stands.taken) takes.taken)
+
+    rebuilds : RebuildsBy takes.received.now (arrivals_of p.0.sbn packets) p.0.esi p.1
+    rebuilds = forced _ takes.received.now (arrivals_of p.0.sbn packets) p.0.esi p.1
+        (old_stands mid now h code packets decoders decoders_now p cores takes)
+        (takes.received.received takes.received.now)
+
+    new_at : (d : Decoder) → slice_index_or decoders_now p.0.sbn d ≡ takes.received.now
+    new_at d = new_is mid now h code packets decoders decoders_now p cores takes d
+
+    pub stands_more : ((d : Decoder)
+        → GrowsTold told_mid told_now (rebuilt p.0.sbn (slice_index_or decoders_now p.0.sbn d)))
+        → StandsAt h code early most left now told told_now (packets ++ p ∷ []) []
+    stands_more grown = record {
+      packets_are = its;
+      taken = subst (Consumes left now) (sym (append-nil (spelled (packets ++ p ∷ [])))) bytes;
+      told_of = subst (λ l. TellsOf code h.oti.symbol (packets ++ p ∷ []) l told told_now)
+          (sym (told_places_more code packets p))
+          (tells_all code h.oti.symbol packets p takes.received.now
+          (new_matrix mid now h code packets decoders decoders_now p cores takes)
+          (new_len mid now h code packets decoders decoders_now p cores takes) rebuilds
+          (told_places code packets) told told_mid told_now stands.told_of
+          (subst (λ (d : Decoder). GrowsTold told_mid told_now (rebuilt p.0.sbn d))
+          (new_at takes.received.now) (grown takes.received.now)));
+    }
+
+    pub stands_within : (count : ℕ)
+        → ((d : Decoder) → TellsFront told_mid told_now p.0.sbn (slice_index_or decoders_now p.0.sbn
+        d) count) → StandsWithin h code early most left now told told_now packets p count
+    stands_within count front =
+        let own = subst (λ (d : Decoder). TellsFront told_mid told_now p.0.sbn d count)
+        (new_at takes.received.now) (front takes.received.now) in
+        let part = tells_front code h.oti.symbol packets p takes.received.now
+        (new_matrix mid now h code packets decoders decoders_now p cores takes)
+        (new_len mid now h code packets decoders decoders_now p cores takes) rebuilds
+        (told_places code packets) told told_mid told_now stands.told_of count own.0 own.1 in
+        record { packets_are = its; taken = bytes; part = part.0; told_of = part.1 }
+
+  -- one packet that is refused refuses the packets
+  module _ (forced : RebuiltAreForced) (left mid now : Option (List ℕ))
+      (told told_mid told_now : Option (List Telling)) (faults faults_mid faults_now told_faults
+      told_faults_mid told_faults_now : ℕ)
+      (packets : List Packet) (decoders decoders_now : List Decoder) (index : ℕ)
+      (stands : StandsAt h code early most left mid told told_mid packets [])
+      (cores : AreCores h code packets decoders) (counted : length packets ≡ index)
+      (wanted : early ≡ true → ¬ IsWhole h code packets)
+      (later : faults ≤ faults_mid) (told_later : told_faults ≤ told_faults_mid) where
+    pub packet_fails : (refusal : Refusal) → FailsAtOne h index most (stream mid faults_mid)
+        (stream now faults_now) decoders decoders_now (hearing told_mid told_faults_mid)
+        (hearing told_now told_faults_now) refusal
+        → FailsAtPackets h code early most (stream left faults) (stream now faults_now)
+        (hearing told told_faults) (hearing told_now told_faults_now) refusal
+    packet_fails Memory fails = absurd fails
+    packet_fails (Draws b) fails = absurd fails
+    packet_fails Watch (rose, few, p, count, takes, front) = (
+      omega (arith, rose, told_later),
+      packets,
+      p,
+      count,
+      stands_within forced left mid now told told_mid told_now packets decoders decoders_now p
+          stands cores (omega (arith, few, counted)) wanted takes count front,
+    )
+    packet_fails (File fault) (kept, read, other) = ⊎_elim
+        (λ (is : fault ≡ ReadFault).
+        let (rose, (some, took, short)) = read is in (
+          packets,
+          some,
+          stands_before left mid now told told_mid told_now packets some stands took kept,
+          wanted,
+          (λ same. (omega (arith, rose, later), short)),
+          λ apart. absurd (apart is),
+        ))
+        (λ (apart : fault ≢ ReadFault).
+        let (piece, taken, fails, ended) = other apart in (
+          packets,
+          piece,
+          stands_before left mid now told told_mid told_now packets piece stands taken kept,
+          wanted,
+          (λ same. absurd (apart same)),
+          λ _. (subst (λ i. HasPacketFault h i most piece fault) (sym counted) fails, ended),
+        ))
+        (read_or_other fault)

@@ -1,0 +1,14 @@
+pub mod Asking
+pub mod BuiltCodes
+pub mod Codes
+pub mod File
+pub mod Made
+pub mod Object
+pub mod Options
+pub mod Received
+pub mod Receiving
+pub mod Reception
+pub mod Refusals
+pub mod Staged
+pub mod Taken
+pub mod Told

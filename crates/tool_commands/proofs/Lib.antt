@@ -1,0 +1,12 @@
+mod Determining
+mod Encoding
+mod Ends
+mod Enumerated
+mod NoObject
+mod Objects
+mod PassRuns
+mod PerfRuns
+mod Reports
+mod Running
+mod Sourced
+mod Blocks

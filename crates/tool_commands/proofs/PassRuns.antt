@@ -1,0 +1,110 @@
+-- What a run over a packet file does, by how its pass ended.
+use Rattle.std.proofs.Common.{◌≡◌, ◌≢◌, ◌⊎◌, ℕ, inl, inr, refl, sym, ap}
+use Rattle.std.proofs.Common.{◌∙◌, subst, ⊎_elim}
+use Rattle.std.specs.Prelude.{codes}
+use Rattle.std.specs.Io.KnownBytes.{Appends}
+use Rattle.fec_base.specs.Bytes.{AppendsFront}
+use Rattle.fec_base.specs.Causes.{Rose}
+use Rattle.packet_file.specs.declared.fault.FileFault.{FileFault}
+use Rattle.packet_file.specs.declared.fault.FileFault.TheVariants.{ReadFault}
+use Rattle.packet_pass.specs.declared.kind.Pass.{Pass}
+use Rattle.packet_pass.specs.declared.kind.Passed.{Passed}
+use Rattle.packet_pass.specs.declared.kind.PassRefusal.{PassRefusal}
+use Rattle.packet_pass.specs.declared.kind.PassRefusal.TheVariants as early
+use Rattle.tool_base.specs.declared.status.Status.{Status}
+use Rattle.tool_base.specs.declared.status.Status.TheVariants as status
+use Rattle.tool_commands.specs.Outside.{Streams}
+use Rattle.tool_commands.specs.PassRun.{EndsPass, IsPassRun, IsPassed, RefusesPass}
+use Rattle.tool_commands.specs.PassRun.{pass_report}
+use Rattle.object_file.specs.Refusals.{IsRefused, refusal_status, refusal_text}
+use Rattle.tool_commands.specs.Written.{IsTold}
+use Rattle.object_file.specs.Taken.{TakesSome}
+use Rattle.object_file.specs.declared.causes.Refusal.{Refusal}
+use Rattle.object_file.specs.declared.causes.Refusal.TheVariants.{Memory, File}
+use Rattle.tool_commands.proofs.Ends.{is_refused, no_other}
+use Rattle.object_file.proofs.Standing.{read_or_other}
+
+module _ (pass : Pass) (most : ℕ) (before after : Streams) where
+  -- a pass took some bytes, however it ended
+  passed_takes : (passed : Passed) → IsPassed pass most before after passed
+      → TakesSome before.input.bytes after.input.bytes
+  passed_takes passed whole = (_, whole.ends.1.taken)
+
+  fault_takes : (fault : FileFault) → EndsPass pass most before after (early.File fault)
+      → TakesSome before.input.bytes after.input.bytes
+  fault_takes fault (inl (kept, (read, other))) = ⊎_elim
+      (λ (same : fault ≡ ReadFault). let ((bytes, taken, few), rose) = read same in (bytes, taken))
+      (λ (apart : fault ≢ ReadFault). let (bytes, taken, bad, end) = other apart in (bytes, taken))
+      (read_or_other fault)
+  fault_takes fault (inr (h, header, (packets, piece, stands, few, read, other))) =
+      (_, stands.taken)
+
+  output_takes : EndsPass pass most before after early.Output
+      → TakesSome before.input.bytes after.input.bytes
+  output_takes (h, header, inl (taken, front, rose)) = (_, taken)
+  output_takes (h, header, inr (packets, p, n, stands, of, within, few, rose)) = (_, stands.taken)
+
+  -- a pass to the end of the input, by how its report came out
+  pub ends_whole : (ended : Status) (passed : Passed) → IsPassed pass most before after passed
+      → (ended ≡ status.Done → Appends before.report.bytes after.report.bytes
+      (pass_report pass passed))
+      → (ended ≡ status.WriteFault → AppendsFront before.report.bytes after.report.bytes
+      (pass_report pass passed) × Rose before.report.faults after.report.faults)
+      → (ended ≡ status.Done) ⊎ (ended ≡ status.WriteFault) → IsPassRun pass most before after ended
+  ends_whole ended passed whole done cut ends = record {
+    done = λ is. (passed, whole, done is);
+    cut = λ is. inr (let (front, rose) = cut is in
+        record { passed = passed; whole = whole; rose = rose; front = front });
+    refused = λ refused. absurd (⊎_elim (λ (is : ended ≡ status.Done). subst IsRefused is refused)
+        (λ (is : ended ≡ status.WriteFault). subst IsRefused is refused) ends);
+    taken = passed_takes passed whole;
+    ends = inr ends;
+  }
+
+  -- a pass that is refused
+  pub ends_refused : (ended : Status) (refusal : Refusal) → ended ≡ refusal_status refusal
+      → RefusesPass pass most before after refusal
+      → TakesSome before.input.bytes after.input.bytes → IsTold (refusal_text refusal) before.report
+      after.report → IsPassRun pass most before after ended
+  ends_refused ended refusal is refuses taken told = record {
+    done = λ other. absurd (no_other refusal ended status.Done is other);
+    cut = λ other. absurd (no_other refusal ended status.WriteFault is other);
+    refused = λ refused. (refusal, is, refuses, told);
+    taken = taken;
+    ends = inl (subst IsRefused (sym is) (is_refused refusal));
+  }
+
+  module _ (ended : Status) (cause : PassRefusal) (ends : EndsPass pass most before after cause)
+    where
+      -- memory lacked
+      pub ends_memory : cause ≡ early.Memory → ended ≡ status.Memory
+          → IsTold (refusal_text Memory) before.report after.report
+          → IsPassRun pass most before after ended
+      ends_memory same is told =
+          let (kept, (h, header, taken)) : EndsPass pass most before after early.Memory =
+          subst (EndsPass pass most before after) same ends in
+          ends_refused ended Memory is (kept, inr (h, header, taken)) (_, taken) told
+
+      -- the input is refused
+      pub ends_file : (fault known : FileFault) → fault ≡ known → cause ≡ early.File fault
+          → ended ≡ refusal_status (File known) → IsTold (refusal_text (File known)) before.report
+          after.report → IsPassRun pass most before after ended
+      ends_file fault known alike same is told =
+          let refuses : EndsPass pass most before after (early.File known) =
+          subst (EndsPass pass most before after) (same ∙ ap early.File alike) ends in
+          ends_refused ended (File known) is refuses (fault_takes known refuses) told
+
+      -- the output failed
+      pub ends_output : cause ≡ early.Output → ended ≡ status.WriteFault
+          → IsTold (codes "fault: write\n") before.report after.report
+          → IsPassRun pass most before after ended
+      ends_output same is told =
+          let cut : EndsPass pass most before after early.Output =
+          subst (EndsPass pass most before after) same ends in
+          rw is (record {
+            done = λ other. absurd (cc other);
+            cut = λ again. inl (record { ends = cut; told_so = told });
+            refused = λ refused. absurd refused;
+            taken = output_takes cut;
+            ends = inr (inr refl);
+          })

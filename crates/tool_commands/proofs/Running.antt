@@ -1,0 +1,92 @@
+-- What a run does, by what its words ask for.
+use Rattle.std.proofs.Common.{◌≡◌, [], ℕ, inl, inr, refl, arith, ⊎_elim, Option, Some, None}
+use Rattle.std.proofs.KnownBytes.{Consumes-nil, Keeps-refl}
+use Rattle.std.specs.Io.KnownBytes.{Consumes}
+use Rattle.packet_pass.specs.declared.kind.Pass.{Pass}
+use Rattle.packet_pass.specs.declared.kind.Pass.TheVariants.{Lose, Show}
+use Rattle.tool_base.specs.Status.{fault_text}
+use Rattle.tool_base.specs.declared.command.Command.{Command}
+use Rattle.tool_base.specs.declared.command.Command.TheVariants as command
+use Rattle.tool_base.specs.declared.status.Status.{Status}
+use Rattle.tool_base.specs.declared.status.Status.TheVariants as status
+use Rattle.fec_base.specs.Outside.{Hearing, Stream}
+use Rattle.tool_commands.specs.Outside.{Streams}
+use Rattle.tool_commands.specs.PassRun.{IsPassRun}
+use Rattle.tool_commands.specs.Run.{IsCommandRun, IsUsageRun}
+use Rattle.tool_commands.specs.Written.{IsTold}
+use Rattle.object_file.specs.declared.causes.Refusal.TheVariants.{Memory}
+use Rattle.tool_commands.proofs.PassRuns.{ends_refused}
+use Rattle.object_file.proofs.Telling.{keeps_same}
+
+-- what is asked for is done, by whatever name
+pub runs_asked : (before after : Streams) (watch watch_now : Hearing) (ended : Status)
+    (means asked : Option Command)
+    → means ≡ asked → IsCommandRun asked before after watch watch_now ended
+    → IsCommandRun means before after watch watch_now ended
+runs_asked before after watch watch_now ended means asked is run = rw is run
+
+module _ (before : Streams) (report : Stream) where
+  abbrev after : Streams
+  after = record before { report = report }
+
+  -- words that mean no command
+  pub runs_usage : (ended : Status) → ended ≡ status.Usage
+      → IsTold (fault_text status.Usage) before.report report → IsUsageRun before after ended
+  runs_usage ended is told = rw is
+      (record { ends = inl refl; input = refl; output = refl; told = told })
+
+  -- without memory for the words a pass takes nothing
+  pass_out : (pass : Pass) (most : ℕ) (ended : Status) → ended ≡ status.Memory
+      → IsTold (fault_text status.Memory) before.report report
+      → IsPassRun pass most before after ended
+  pass_out pass most ended is told =
+      let none : Consumes before.input.bytes before.input.bytes [] =
+      Consumes-nil before.input.bytes in
+      ends_refused pass most before after ended Memory is (Keeps-refl before.output.bytes, inl none)
+      ([], none) told
+
+  -- and any command ends so
+  pub runs_out : (watch : Hearing) (asked : Option Command) (ended : Status) → ended ≡ status.Memory
+      → IsTold (fault_text status.Memory) before.report report
+      → IsCommandRun asked before after watch watch ended
+  runs_out watch None ended is told =
+      rw is (record { ends = inr refl; input = refl; output = refl; told = told })
+  runs_out watch (Some (command.Encode shape symbol block max_n)) ended is told = rw is (record {
+    done = λ other. absurd (cc other);
+    cut = λ other. absurd (cc other);
+    memory = λ same. inl (Keeps-refl before.output.bytes);
+    refused = λ refused. (Memory, refl, tt, told);
+    unwritten = λ refused apart. Keeps-refl before.output.bytes;
+    taken = ([], Consumes-nil before.input.bytes, omega arith);
+    ends = inl tt;
+  })
+  runs_out watch (Some (command.Decode draws early most)) ended is told = rw is (record {
+    done = λ other. absurd (cc other);
+    cut = λ other. absurd (cc other);
+    undecided = ⊎_elim (λ (other : status.Memory ≡ status.NoCodeword). absurd (cc other))
+        (λ (other : status.Memory ≡ status.Undetermined). absurd (cc other));
+    refused = λ refused. (
+      Memory,
+      refl,
+      inl ([], Consumes-nil before.input.bytes, omega arith, keeps_same watch.told),
+      told,
+    );
+    unwritten = λ done cut. Keeps-refl before.output.bytes;
+    taken = ([], Consumes-nil before.input.bytes);
+    ends = λ (other : status.Memory ≡ status.Usage). cc;
+  })
+  runs_out watch (Some (command.Lose loss seed most)) ended is told = pass_out (Lose loss seed) most
+      ended is told
+  runs_out watch (Some (command.Show most)) ended is told = pass_out Show most ended is told
+  runs_out watch (Some (command.Perf shape symbol k n loss random runs seed)) ended is told =
+      rw is (record {
+        input = refl;
+        tries = record {
+          done = λ other. absurd (cc other);
+          cut = λ other. absurd (cc other);
+          memory = λ same. inl (Keeps-refl before.output.bytes);
+          refused = λ refused. (Memory, refl, tt, told);
+          unwritten = λ refused apart. Keeps-refl before.output.bytes;
+          ends = inl tt;
+        };
+      })

@@ -1,0 +1,92 @@
+use Rattle.std.proofs.Common.{◌≡◌, Some, ap, refl, rules}
+use Rattle.tool_base.specs.declared.command.Command.TheVariants as command
+use Rattle.tool_commands.proofs.Running.{runs_asked}
+use Rattle.tool_commands.proofs.top_call.run_command.Goals as goal
+
+pub returns-in-Encode-clause-runs : goal.returns-in-Encode-clause-runs
+returns-in-Encode-clause-runs g c =
+    let e = c.in-Encode in
+    let asked = command.Encode e.shape e.symbol e.block e.max_n in
+    let is : Some c.args.command ≡ Some asked = search rules in
+    let run = c.encode-status.ensures in
+    runs_asked _ _ _ _ _ (Some c.args.command) (Some asked) is
+    (record {
+      done = run.done;
+      cut = run.cut;
+      memory = run.memory;
+      refused = run.refused;
+      unwritten = run.unwritten;
+      taken = run.taken;
+      ends = run.ends;
+    })
+
+pub returns-in-Decode-clause-runs : goal.returns-in-Decode-clause-runs
+returns-in-Decode-clause-runs g c =
+    let d = c.in-Decode in
+    let asked = command.Decode d.draws d.early d.packets in
+    let is : Some c.args.command ≡ Some asked = search rules in
+    let run = c.decode.ensures.decodes in
+    runs_asked _ _ _ _ _ (Some c.args.command) (Some asked) is
+    (record {
+      done = run.done;
+      cut = run.cut;
+      undecided = run.undecided;
+      refused = run.refused;
+      unwritten = run.unwritten;
+      taken = run.taken;
+      ends = run.ends;
+    })
+
+pub returns-in-Decode-clause-watch : goal.returns-in-Decode-clause-watch
+returns-in-Decode-clause-watch g c apart =
+    let d = c.in-Decode in
+    absurd (apart d.draws d.early d.packets (ap Some d.is))
+
+pub returns-in-Lose-clause-runs : goal.returns-in-Lose-clause-runs
+returns-in-Lose-clause-runs g c =
+    let l = c.in-Lose in
+    let asked = command.Lose l.loss l.seed l.packets in
+    let is : Some c.args.command ≡ Some asked = search rules in
+    let run = c.run_pass-status.ensures in
+    runs_asked _ _ _ _ _ (Some c.args.command) (Some asked) is
+    (record {
+      done = run.done;
+      cut = run.cut;
+      refused = run.refused;
+      taken = run.taken;
+      ends = run.ends;
+    })
+
+pub returns-in-Show-clause-runs : goal.returns-in-Show-clause-runs
+returns-in-Show-clause-runs g c =
+    let s = c.in-Show in
+    let asked = command.Show s.packets in
+    let is : Some c.args.command ≡ Some asked = search rules in
+    let run = c.run_pass-status-in-Show.ensures in
+    runs_asked _ _ _ _ _ (Some c.args.command) (Some asked) is
+    (record {
+      done = run.done;
+      cut = run.cut;
+      refused = run.refused;
+      taken = run.taken;
+      ends = run.ends;
+    })
+
+pub returns-in-Perf-clause-runs : goal.returns-in-Perf-clause-runs
+returns-in-Perf-clause-runs g c =
+    let p = c.in-Perf in
+    let asked = command.Perf p.shape p.symbol p.k p.n p.loss p.random p.runs p.run_seed in
+    let is : Some c.args.command ≡ Some asked = search rules in
+    let tries = c.perf-status.ensures in
+    runs_asked _ _ _ _ _ (Some c.args.command) (Some asked) is
+    (record {
+      input = refl;
+      tries = record {
+        done = tries.done;
+        cut = tries.cut;
+        memory = tries.memory;
+        refused = tries.refused;
+        unwritten = tries.unwritten;
+        ends = tries.ends;
+      };
+    })

@@ -1,0 +1,9 @@
+pub mod Asking
+pub mod DecodeRun
+pub mod EncodeRun
+pub mod Outcomes
+pub mod Outside
+pub mod PassRun
+pub mod PerfRun
+pub mod Run
+pub mod Written

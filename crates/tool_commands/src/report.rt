@@ -1,0 +1,23 @@
+// The lines of a report.
+ghost use Rattle.std.specs.Prelude.{OnErr, OnOk};
+ghost use Rattle.std.specs.Io.KnownBytes.{Appends};
+ghost use Rattle.fec_base.specs.Bytes.{AppendsFront};
+ghost use Rattle.fec_base.specs.Causes.{HasCause};
+ghost use Rattle.object_file.specs.Refusals.{numbered};
+
+use fec_base::{Sink, WriteFailed};
+use tool_base::{put_number, put_text};
+
+/// Reports a line with a number at its end.
+pub fn put_numbered<R: Sink>(report: &mut R, text: &str, number: u64) -> Result<(), WriteFailed>
+    ensures written { OnOk result
+        (Appends (R.held report.old) (R.held report.new) (numbered text.now number)) }
+    ensures cut { OnErr result
+        (AppendsFront (R.held report.old) (R.held report.new) (numbered text.now number)) }
+    ensures cause { HasCause (R.faults report.old) (R.faults report.new) result }
+{
+    put_text(report, text)?;
+    put_number(report, number)?;
+    put_text(report, "\n")?;
+    Ok(())
+}

@@ -1,0 +1,148 @@
+-- What a `lose` or a `show` comes to where nothing outside fails.
+use Rattle.std.proofs.Common.{◌≡◌, ◌≢◌, ◌⊎◌, inl, inr, ⊎_elim, ℕ, List, [], ◌++◌, length, Option}
+use Rattle.std.proofs.Common.{Some, refl, sym, ap, ap₂, ◌∙◌, subst, append_assoc, append-nil}
+use Rattle.std.specs.Io.KnownBytes.{Appends, Consumes}
+use Rattle.packet_file.specs.Header.{HeaderFields, IsHeader, header_bytes}
+use Rattle.packet_file.specs.Laws.{HeaderIsOne, PacketIsOne}
+use Rattle.packet_file.specs.Packets.{Packet, spelled}
+use Rattle.packet_file.specs.Reading.{FailsAtHeader}
+use Rattle.packet_file.specs.declared.fault.FileFault.{FileFault}
+use Rattle.packet_file.specs.declared.fault.FileFault.TheVariants.{ReadFault}
+use Rattle.packet_pass.specs.Pass.{EndsAtInput, LacksHeader}
+use Rattle.packet_pass.specs.Pass.{head_of, loss_in, seed_in, texts}
+use Rattle.packet_pass.specs.Thinned.{kept_of}
+use Rattle.packet_pass.specs.declared.kind.Pass.{Pass}
+use Rattle.packet_pass.specs.declared.kind.Passed.{Passed}
+use Rattle.packet_pass.specs.declared.kind.PassRefusal.TheVariants as early
+use Rattle.tool_base.specs.declared.status.Status.{Status}
+use Rattle.tool_base.specs.declared.status.Status.TheVariants as status
+use Rattle.tool_commands.specs.Outside.{Streams}
+use Rattle.tool_commands.specs.PassRun.{CutsOutput, CutsReport, EndsPass, IsPassRun, IsPassed}
+use Rattle.tool_commands.specs.PassRun.{RefusesPass, pass_report}
+use Rattle.object_file.specs.Received.{IsPacketFile}
+use Rattle.object_file.specs.Refusals.{IsRefused, refusal_status}
+use Rattle.tool_laws.specs.RunLaws.{NothingFails, OrMemory, WritesText, counts_of}
+use Rattle.object_file.specs.declared.causes.Refusal.{Refusal}
+use Rattle.object_file.specs.declared.causes.Refusal.TheVariants.{Draws, File, Memory, Watch}
+use Rattle.tool_laws.proofs.NoFault.{header_taken, packet_taken}
+use Rattle.tool_laws.proofs.OneDecoding.{taken_all, taken_of}
+use Rattle.tool_laws.proofs.OneReading.{length_header, reading_one, same_fronts}
+use Rattle.object_file.proofs.Standing.{read_or_other}
+
+module _ (header_one : HeaderIsOne) (packet_one : PacketIsOne) (pass : Pass) (h : HeaderFields)
+    (packets : List Packet) (bytes : List ℕ) (most : ℕ) (before after : Streams)
+    (file : IsPacketFile h most packets bytes) (known : before.input.bytes ≡ Some bytes)
+    (clean : NothingFails before after) where
+  -- a packet file isn't refused as a header
+  not_in_header : (fault : FileFault) → LacksHeader before.input.bytes after.input.bytes
+      before.input.faults after.input.faults fault → ⊥
+  not_in_header fault (read, other) = ⊎_elim
+      (λ (is : fault ≡ ReadFault). clean.reads (read is).1)
+      (λ (differs : fault ≢ ReadFault). header_taken header_one h file.header fault
+      (spelled packets) after.input.bytes
+      (subst (λ (l : Option (List ℕ)). FailsAtHeader fault l after.input.bytes) (known
+      ∙ ap (λ (l : List ℕ). Some l) file.bytes_are) (other differs)))
+      (read_or_other fault)
+
+  -- nor at a packet
+  not_behind : (fault : FileFault) (other : HeaderFields) → IsHeader other
+      → EndsAtInput pass most other (header_bytes other) (head_of pass other) before.input.bytes
+      after.input.bytes before.output.bytes after.output.bytes before.input.faults
+      after.input.faults fault → ⊥
+  not_behind fault other header (came, piece, stands, few, read, differs) = ⊎_elim
+      (λ (is : fault ≡ ReadFault). clean.reads (read is).1)
+      (λ (another : fault ≢ ReadFault).
+      let front : List ℕ = header_bytes other ++ (spelled came ++ piece) in
+      let (rest, left_is, bytes_are) = taken_of bytes after.input.bytes front
+      (subst (λ (l : Option (List ℕ)). Consumes l after.input.bytes front) known stands.taken)
+      in
+      let taken : bytes ≡ (header_bytes other ++ spelled came) ++ (piece ++ rest) =
+      bytes_are ∙ ap (λ (l : List ℕ). l ++ rest)
+      (sym (append_assoc (header_bytes other) (spelled came) piece))
+      ∙ append_assoc (header_bytes other ++ spelled came) piece rest in
+      let parts = same_fronts (header_bytes other) (header_bytes h)
+      (spelled came ++ (piece ++ rest)) (spelled packets) (length_header other
+      ∙ sym (length_header h))
+      (sym (append_assoc (header_bytes other) (spelled came) (piece ++ rest)) ∙ sym taken
+      ∙ file.bytes_are) in
+      let own : other ≡ h = header_one other h header.bits file.header.bits parts.0 in
+      let file_now : IsPacketFile other most packets bytes =
+      subst (λ (k : HeaderFields). IsPacketFile k most packets bytes) (sym own) file in
+      packet_taken packet_one other most packets bytes file_now fault came (Some (piece ++ rest))
+      after.input.bytes stands.each taken (
+        piece,
+        subst (λ (l : Option (List ℕ)). Consumes (Some (piece ++ rest)) l piece) (sym left_is)
+            refl,
+        (differs another).0,
+        (differs another).1,
+      ))
+      (read_or_other fault)
+
+  -- only memory may lack
+  not_refused : (refusal : Refusal) → RefusesPass pass most before after refusal → refusal ≡ Memory
+  not_refused Memory refuses = refl
+  not_refused (File fault) (inl (kept, lacks)) = absurd (not_in_header fault lacks)
+  not_refused (File fault) (inr (other, header, ends)) = absurd (not_behind fault other header ends)
+  not_refused (Draws b) refuses = absurd refuses
+  not_refused Watch refuses = absurd refuses
+
+  -- and nothing is cut
+  no_output : EndsPass pass most before after early.Output → ⊥
+  no_output (other, header, inl (taken, front, rose)) = clean.writes rose
+  no_output (other, header, inr (came, p, n, stands, of, within, few, rose)) = clean.writes rose
+
+  not_cut : CutsOutput pass most before after ⊎ CutsReport pass most before after → ⊥
+  not_cut cut = ⊎_elim
+      (λ (c : CutsOutput pass most before after). no_output c.ends)
+      (λ (c : CutsReport pass most before after). clean.reports c.rose)
+      cut
+
+  -- a pass to the end is one over this header and these packets
+  whole : (passed : Passed) → IsPassed pass most before after passed
+      → Appends before.report.bytes after.report.bytes (pass_report pass passed)
+      → WritesText pass h packets before after
+  whole passed w told =
+      let other : HeaderFields = w.header in
+      let came : List Packet = w.ends.0 in
+      let stands = w.ends.1 in
+      let front : List ℕ = header_bytes other ++ (spelled came ++ []) in
+      let read : front ≡ bytes = taken_all bytes front after.input.bytes
+      (subst (λ (l : Option (List ℕ)). Consumes l after.input.bytes front) known stands.taken)
+      w.ends.2 in
+      let file_now : IsPacketFile other most came bytes = record {
+        header = w.is_header;
+        each = stands.each;
+        few = w.ends.4;
+        bytes_are = sym read ∙ ap (λ (l : List ℕ). header_bytes other ++ l)
+            (append-nil (spelled came));
+      } in
+      let (header_is, packets_are) = reading_one header_one packet_one other h most most came
+      packets bytes file_now file in
+      let text : head_of pass other ++ (texts pass came ++ []) ≡ head_of pass h ++ texts pass
+      packets =
+      ap (λ (l : List ℕ). head_of pass other ++ l) (append-nil (texts pass came))
+      ∙ ap₂ (λ (k : HeaderFields) (l : List Packet). head_of pass k ++ texts pass l) header_is
+      packets_are in
+      let count : passed.packets ≡ length packets = sym w.ends.3 ∙ ap length packets_are in
+      let kept : passed.kept ≡ kept_of (loss_in pass) (seed_in pass) (length packets) = w.kept
+      ∙ ap (λ (n : ℕ). kept_of (loss_in pass) (seed_in pass) n) count in
+      let same : passed ≡ counts_of pass packets =
+      ap₂ (λ (n k : ℕ). record { packets = n; kept = k }) count kept in
+      record {
+        ended = w.ends.2;
+        written = subst (Appends before.output.bytes after.output.bytes) text stands.written;
+        reported = subst (λ (p : Passed). Appends before.report.bytes after.report.bytes
+            (pass_report pass p)) same told;
+      }
+
+  -- so it ends well, or memory lacks
+  pub comes_through : (ended : Status) → IsPassRun pass most before after ended
+      → OrMemory ended ((ended ≡ status.Done) × WritesText pass h packets before after)
+  comes_through ended run = ⊎_elim
+      (λ (refused : IsRefused ended). let is = run.refused refused in
+      inl (is.1 ∙ ap refusal_status (not_refused is.0 is.2)))
+      (λ other. ⊎_elim
+      (λ (done : ended ≡ status.Done). let is = run.done done in inr (done, whole is.0 is.1 is.2))
+      (λ (cut : ended ≡ status.WriteFault). absurd (not_cut (run.cut cut)))
+      other)
+      run.ends

@@ -1,0 +1,16 @@
+//! The laws of the program: what follows from the definitions of its commands alone. A packet file
+//! has one reading, an object one encoding, packets one outcome; `decode` undoes `encode`; and where
+//! nothing fails a run comes through. A law is the contract of a function that does nothing but
+//! call other laws. The crate stands on `tool_commands` and `object_file` for what it speaks of.
+#![tactic(auto)]
+
+mod laws;
+
+pub use laws::{
+    all_packets_give_the_object, chosen_packets_are_decoded, chosen_packets_decode_right,
+    codes_are_tried, decode_undoes_encode, null_words_decide_what_comes_back, objects_are_encoded,
+    one_encoding_for_each_object, one_outcome_for_each_file, one_reading_for_each_file,
+    one_text_for_each_perf, outcomes_go_by_the_set_of_packets, packet_files_are_decoded,
+    packet_files_are_passed, packet_files_have_no_fault, what_is_told_is_of_the_file,
+    what_was_encoded_is_decoded, what_was_encoded_is_never_decoded_wrong,
+};
