@@ -13,7 +13,7 @@ import re
 import sys
 import textwrap
 
-from trusted import PROGRAM, TOP, Definition, Project, counted, place
+from trusted import COMMANDS, PROGRAM_LAWS, TOP, Definition, Project, counted, place
 
 PAGE = TOP / "docs" / "CHAINS.md"
 README = TOP / "README.md"
@@ -76,14 +76,14 @@ class Chains:
             found = [
                 file.definitions[name]
                 for (crate, _), file in self.project.specs.items()
-                if crate == PROGRAM and name in file.definitions
+                if crate == COMMANDS and name in file.definitions
             ]
             yield name, words, found
 
     def laws(self):
         """What the laws of the program name."""
         for file in self.project.sources:
-            if (file.crate, file.path.stem) == (PROGRAM, "laws"):
+            if (file.crate, file.path.stem) == (PROGRAM_LAWS, "laws"):
                 yield from self.project.cited(file, file.text)
 
     def calls(self):
@@ -142,7 +142,7 @@ class Chains:
         for name, words, found in self.records():
             lines += self.section(f"`{name}`: {words}", found)
             held |= self.project.closure(found)
-        heading = f"The laws of `{PROGRAM}`, without what stands above"
+        heading = "The laws of the program, without what stands above"
         lines += self.section(heading, self.laws(), held, 1)
         seen = set()
         for crate, name, roots in self.calls():

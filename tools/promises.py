@@ -14,7 +14,8 @@ from typing import NamedTuple, Optional
 TOP = pathlib.Path(__file__).resolve().parent.parent
 PAGES = [TOP / "docs" / "PROMISES.md", TOP / "docs" / "CAUSES.md"]
 LIBRARY, EXAMPLE = TOP / "docs" / "LIBRARY.md", TOP / "crates" / "one_block"
-PROGRAM = "eperftool"
+# The crate that a file of definitions is of where a page names none.
+COMMANDS = "tool_commands"
 HEADS = ("|---", "| promise", "| law", "| status", "| words", "| call")
 FUNCTION = re.compile(r"^\s*(?:pub(?:\([a-z]+\))? )?(?:const )?fn (\w+)")
 TYPE = re.compile(r"^(?:impl(?:<[^>]*>)? (?:(\w+)(?:<[^>]*>)? for )?(\w+)|pub (?:struct|enum|trait) (\w+))")
@@ -150,7 +151,7 @@ def misplaced():
     for page in [TOP / "README.md", *sorted((TOP / "docs").glob("*.md"))]:
         for names, place in PLACED.findall(page.read_text().replace("\n", " ")):
             crate, _, file = place.rpartition("specs/")
-            path = TOP / "crates" / (crate.rstrip("/") or PROGRAM) / "specs" / f"{file}.antt"
+            path = TOP / "crates" / (crate.rstrip("/") or COMMANDS) / "specs" / f"{file}.antt"
             text = path.read_text() if path.is_file() else ""
             for name in re.findall(r"`([A-Z]\w+)`", names):
                 if not re.search(rf"^(?:[a-z]+ )*{name}\b", text, re.M):

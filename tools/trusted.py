@@ -24,7 +24,8 @@ import sys
 TOP = pathlib.Path(__file__).resolve().parent.parent
 CRATES = TOP / "crates"
 PAGE = TOP / "docs" / "TRUSTED.md"
-PROGRAM = "eperftool"
+# The crates of the top call `run`, and of the laws of the program.
+COMMANDS, PROGRAM_LAWS = "tool_commands", "tool_laws"
 INSIDE = "-- Inside:"
 COUNTING = {("std.proofs.Common", "zero"), ("std.proofs.Common", "suc")}
 
@@ -260,10 +261,10 @@ class Project:
             shown, root = self.exports(file.crate), file.path.stem == "lib"
             for owner, is_pub, name, text in file.functions():
                 cited = list(self.cited(file, text))
-                if (file.crate, file.path.stem, name) == (PROGRAM, "run", "run"):
+                if (file.crate, owner, name) == (COMMANDS, None, "run") and is_pub:
                     run += cited
                 elif file.path.stem == "laws" and is_pub:
-                    (laws if file.crate == PROGRAM else others).extend(cited)
+                    (laws if file.crate == PROGRAM_LAWS else others).extend(cited)
                 elif is_pub and ((owner or name) in shown or root):
                     public += cited
             public += [what for what in self.types if what[0] == file.crate and what[1] in shown]
@@ -292,7 +293,7 @@ class Listing:
         self.public = project.closure(public)
         self.crates = re.findall(r"^(\w+):", (TOP / "crates.txt").read_text(), re.M)
         if not run or not laws:
-            project.errors.add(f"crates/{PROGRAM}/src: no contract of `run`, or no laws")
+            project.errors.add(f"crates/{COMMANDS}, crates/{PROGRAM_LAWS}: no contract of `run`, or no laws")
 
     def files(self, crate):
         """The files of a crate's specs/, in the order of its Lib.antt."""

@@ -1,4 +1,4 @@
--- Inside: the command that options are of.
+-- The command that the options of an `encode` are of.
 use Rattle.tool_base.specs.declared.command.Command.{Command}
 use Rattle.tool_base.specs.declared.command.Command.TheVariants.{Encode}
 use Rattle.object_file.specs.declared.options.EncodeOptions.{EncodeOptions}

@@ -1,4 +1,4 @@
--- Inside: the codes that a run builds of a file's blocks.
+-- The codes that are built of a file's blocks.
 use Rattle.std.specs.Prelude.{All, Any, List, None, Option, Some, length, slice_index_or, ℕ, ⊤, ◌<◌}
 use Rattle.std.specs.Prelude.{◌≡◌, ◌⊎◌}
 use Rattle.packet_file.specs.Header.{HeaderFields, source_counts, symbol_count}

@@ -1,4 +1,4 @@
--- Inside: what is ready to be written.
+-- What is ready to be written.
 use Rattle.std.specs.Prelude.{◌≡◌, ℕ, ◌*◌, ◌<◌, List, [], drop, length, slice_index_or, All}
 use Rattle.std.specs.Prelude.{Contains, Option, Some, ⊤}
 use Rattle.std.specs.Int.{div_ceil}

@@ -1,4 +1,4 @@
--- Inside: why an object could not be had.
+-- Why an object could not be had.
 use Rattle.std.specs.Prelude.{◌≡◌, ◌<◌, ◌⊎◌, ℕ, List, length, Option}
 use Rattle.std.specs.Io.KnownBytes.{Consumes}
 use Rattle.fec_base.specs.Causes.{Rose}

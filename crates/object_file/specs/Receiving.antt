@@ -1,4 +1,4 @@
--- Inside: how the packets of a file are received.
+-- How the packets of a file are received.
 use Rattle.std.specs.Io.KnownBytes.{Consumes}
 use Rattle.std.specs.Prelude.{Bool, List, Option, [], length, slice_index_or, suc, zero, ℕ, ⊤, ◌++◌}
 use Rattle.std.specs.Prelude.{◌+◌, ◌<◌, ◌∷◌, ◌≡◌, ◌≢◌}

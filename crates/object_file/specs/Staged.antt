@@ -1,4 +1,4 @@
--- Inside: bytes that wait for a sink.
+-- Bytes that wait for a sink.
 use Rattle.std.specs.Prelude.{◌≡◌, ℕ, List, ◌++◌, Option}
 use Rattle.std.specs.Io.KnownBytes.{Appends}
 

@@ -1,4 +1,4 @@
--- Inside: the command that options are of.
+-- Inside: the command that the options of a `perf` are of.
 use Rattle.tool_base.specs.declared.command.Command.{Command}
 use Rattle.tool_base.specs.declared.command.Command.TheVariants.{Perf}
 use Rattle.tool_commands.specs.declared.options.PerfOptions.{PerfOptions}

@@ -1,9 +1,9 @@
 pub mod Asking
-pub mod DecodeRun
-pub mod EncodeRun
-pub mod Outcomes
 pub mod Outside
+pub mod Written
+pub mod Outcomes
+pub mod EncodeRun
+pub mod DecodeRun
 pub mod PassRun
 pub mod PerfRun
 pub mod Run
-pub mod Written

@@ -1,4 +1,4 @@
 pub mod Laws
-pub mod PerfLaws
 pub mod RoundTrip
 pub mod RunLaws
+pub mod PerfLaws
