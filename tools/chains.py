@@ -91,7 +91,7 @@ class Chains:
         for line in README.read_text().splitlines():
             cells = [cell.strip() for cell in line.split("|")]
             crates = re.findall(r"`(\w+)`", cells[1]) if len(cells) == 5 else []
-            if not crates or crates == [PROGRAM] or not (TOP / "crates" / crates[0]).is_dir():
+            if not crates or crates == [COMMANDS] or not (TOP / "crates" / crates[0]).is_dir():
                 continue
             kind = None
             for name in re.findall(r"`((?:\w+::)?\w+)`", cells[3]):
