@@ -1,5 +1,6 @@
-//! The program `eperftool`: `main` hands `run` its words and the standard streams, and ends with the
-//! status that it gives. What a run does stands in `tool_commands`.
+//! The program `eperftool`: `main` hands `run` its words and the standard streams, and ends with
+//! the status that it gives. It stands on `tool_commands`, which says what a run does, and promises
+//! nothing of its own.
 #![tactic(auto)]
 
 use fec_base::{NoMemory, ProgressWatch, ReadSource, Watch, Words, WriteSink};

@@ -4,8 +4,9 @@ ghost use Rattle.std.specs.List.{list_any};
 ghost use Rattle.std.specs.Io.KnownBytes.{Appends};
 ghost use Rattle.fec_base.specs.Bytes.{AppendsFront};
 ghost use Rattle.fec_base.specs.Causes.{HasCause};
-ghost use Rattle.tool_commands.specs.Outcomes.{block_line, block_lines, decode_report, is_contradicted};
-ghost use Rattle.tool_commands.specs.Outcomes.{is_undetermined, outcome_status, outcome_words, spaced};
+ghost use Rattle.tool_commands.specs.Outcomes.{block_line, block_lines, decode_report};
+ghost use Rattle.tool_commands.specs.Outcomes.{is_contradicted, is_undetermined, outcome_status};
+ghost use Rattle.tool_commands.specs.Outcomes.{outcome_words, spaced};
 
 use crate::put_numbered;
 use fec_base::{Sink, Watch, WriteFailed};
