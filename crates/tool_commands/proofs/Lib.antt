@@ -1,5 +1,8 @@
+mod Blocks
+mod Delivered
 mod Determining
 mod Encoding
+mod Endings
 mod Ends
 mod Enumerated
 mod NoObject
@@ -9,4 +12,4 @@ mod PerfRuns
 mod Reports
 mod Running
 mod Sourced
-mod Blocks
+mod Verdicts

@@ -62,11 +62,11 @@ module _ (pass : Pass) (most : ℕ) (before after : Streams) where
   }
 
   -- a pass that is refused
-  pub ends_refused : (ended : Status) (refusal : Refusal) → ended ≡ refusal_status refusal
+  pub pass_refused : (ended : Status) (refusal : Refusal) → ended ≡ refusal_status refusal
       → RefusesPass pass most before after refusal
       → TakesSome before.input.bytes after.input.bytes → IsTold (refusal_text refusal) before.report
       after.report → IsPassRun pass most before after ended
-  ends_refused ended refusal is refuses taken told = record {
+  pass_refused ended refusal is refuses taken told = record {
     done = λ other. absurd (no_other refusal ended status.Done is other);
     cut = λ other. absurd (no_other refusal ended status.WriteFault is other);
     refused = λ refused. (refusal, is, refuses, told);
@@ -83,7 +83,7 @@ module _ (pass : Pass) (most : ℕ) (before after : Streams) where
       ends_memory same is told =
           let (kept, (h, header, taken)) : EndsPass pass most before after early.Memory =
           subst (EndsPass pass most before after) same ends in
-          ends_refused ended Memory is (kept, inr (h, header, taken)) (_, taken) told
+          pass_refused ended Memory is (kept, inr (h, header, taken)) (_, taken) told
 
       -- the input is refused
       pub ends_file : (fault known : FileFault) → fault ≡ known → cause ≡ early.File fault
@@ -92,7 +92,7 @@ module _ (pass : Pass) (most : ℕ) (before after : Streams) where
       ends_file fault known alike same is told =
           let refuses : EndsPass pass most before after (early.File known) =
           subst (EndsPass pass most before after) (same ∙ ap early.File alike) ends in
-          ends_refused ended (File known) is refuses (fault_takes known refuses) told
+          pass_refused ended (File known) is refuses (fault_takes known refuses) told
 
       -- the output failed
       pub ends_output : cause ≡ early.Output → ended ≡ status.WriteFault

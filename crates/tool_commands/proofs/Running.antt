@@ -1,5 +1,5 @@
 -- What a run does, by what its words ask for.
-use Rattle.std.proofs.Common.{◌≡◌, [], ℕ, inl, inr, refl, arith, ⊎_elim, Option, Some, None}
+use Rattle.std.proofs.Common.{◌≡◌, [], ℕ, inl, inr, refl, arith, Option, Some, None}
 use Rattle.std.proofs.KnownBytes.{Consumes-nil, Keeps-refl}
 use Rattle.std.specs.Io.KnownBytes.{Consumes}
 use Rattle.packet_pass.specs.declared.kind.Pass.{Pass}
@@ -15,7 +15,8 @@ use Rattle.tool_commands.specs.PassRun.{IsPassRun}
 use Rattle.tool_commands.specs.Run.{IsCommandRun, IsUsageRun}
 use Rattle.tool_commands.specs.Written.{IsTold}
 use Rattle.object_file.specs.declared.causes.Refusal.TheVariants.{Memory}
-use Rattle.tool_commands.proofs.PassRuns.{ends_refused}
+use Rattle.tool_commands.proofs.Endings.{ends_refused}
+use Rattle.tool_commands.proofs.PassRuns.{pass_refused}
 use Rattle.object_file.proofs.Telling.{keeps_same}
 
 -- what is asked for is done, by whatever name
@@ -42,7 +43,7 @@ module _ (before : Streams) (report : Stream) where
   pass_out pass most ended is told =
       let none : Consumes before.input.bytes before.input.bytes [] =
       Consumes-nil before.input.bytes in
-      ends_refused pass most before after ended Memory is (Keeps-refl before.output.bytes, inl none)
+      pass_refused pass most before after ended Memory is (Keeps-refl before.output.bytes, inl none)
       ([], none) told
 
   -- and any command ends so
@@ -51,42 +52,19 @@ module _ (before : Streams) (report : Stream) where
       → IsCommandRun asked before after watch watch ended
   runs_out watch None ended is told =
       rw is (record { ends = inr refl; input = refl; output = refl; told = told })
-  runs_out watch (Some (command.Encode shape symbol block max_n)) ended is told = rw is (record {
-    done = λ other. absurd (cc other);
-    cut = λ other. absurd (cc other);
-    memory = λ same. inl (Keeps-refl before.output.bytes);
-    refused = λ refused. (Memory, refl, tt, told);
-    unwritten = λ refused apart. Keeps-refl before.output.bytes;
+  runs_out watch (Some (command.Encode shape symbol block max_n)) ended is told = record {
+    ends = ends_refused _ _ before.output before.report report ended Memory is tt told;
     taken = ([], Consumes-nil before.input.bytes, omega arith);
-    ends = inl tt;
-  })
-  runs_out watch (Some (command.Decode draws early most)) ended is told = rw is (record {
-    done = λ other. absurd (cc other);
-    cut = λ other. absurd (cc other);
-    undecided = ⊎_elim (λ (other : status.Memory ≡ status.NoCodeword). absurd (cc other))
-        (λ (other : status.Memory ≡ status.Undetermined). absurd (cc other));
-    refused = λ refused. (
-      Memory,
-      refl,
-      inl ([], Consumes-nil before.input.bytes, omega arith, keeps_same watch.told),
-      told,
-    );
-    unwritten = λ done cut. Keeps-refl before.output.bytes;
-    taken = ([], Consumes-nil before.input.bytes);
-    ends = λ (other : status.Memory ≡ status.Usage). cc;
-  })
+  }
+  runs_out watch (Some (command.Decode draws early most)) ended is told =
+      ends_refused _ _ before.output before.report report ended Memory is
+      (inl ([], Consumes-nil before.input.bytes, omega arith, keeps_same watch.told)) told
   runs_out watch (Some (command.Lose loss seed most)) ended is told = pass_out (Lose loss seed) most
       ended is told
   runs_out watch (Some (command.Show most)) ended is told = pass_out Show most ended is told
   runs_out watch (Some (command.Perf shape symbol k n loss random runs seed)) ended is told =
-      rw is (record {
+      record {
         input = refl;
-        tries = record {
-          done = λ other. absurd (cc other);
-          cut = λ other. absurd (cc other);
-          memory = λ same. inl (Keeps-refl before.output.bytes);
-          refused = λ refused. (Memory, refl, tt, told);
-          unwritten = λ refused apart. Keeps-refl before.output.bytes;
-          ends = inl tt;
-        };
-      })
+        ends = ends_refused _ _ before.output before.report report ended Memory is tt told;
+        quiet = λ done. absurd (cc (is, done));
+      }

@@ -1,24 +1,18 @@
 -- What a `decode` does.
-use Rattle.std.specs.Io.KnownBytes.{Appends, Keeps}
-use Rattle.std.specs.Prelude.{Bool, List, Option, [], length, slice_index_or, ℕ, ◌<◌}
-use Rattle.std.specs.Prelude.{◌≡◌, ◌≢◌, ◌⊎◌}
+use Rattle.std.specs.Prelude.{Bool, List, Option, [], length, slice_index_or, ℕ, ◌<◌, ◌≡◌}
 use Rattle.fec_base.specs.Told.{Telling}
 use Rattle.fec_session.specs.declared.outcome.Outcome.{Outcome}
 use Rattle.packet_file.specs.Header.{HeaderFields, source_counts}
 use Rattle.packet_file.specs.Packets.{Packet}
 use Rattle.sparse_rows.specs.Matrix.{Matrix}
 use Rattle.tool_base.specs.declared.status.Status.{Status}
-use Rattle.tool_commands.specs.Outcomes.{decode_report, object_of, outcome_status}
+use Rattle.tool_commands.specs.Ending.{Due, EndsOrRefuses}
+use Rattle.tool_commands.specs.Outcomes.{decode_report, if_done, object_of, outcome_status}
 use Rattle.fec_base.specs.Outside.{Hearing, Stream}
 use Rattle.tool_commands.specs.Outside.{Streams}
 use Rattle.fec_session.specs.Determines.{Determines}
 use Rattle.object_file.specs.Received.{arrivals_of}
-use Rattle.object_file.specs.Refusals.{IsRefused, refusal_status, refusal_text}
 use Rattle.object_file.specs.Told.{IsOver, Opens, StandsAt}
-use Rattle.tool_commands.specs.Written.{IsCut, IsTold}
-use Rattle.object_file.specs.Taken.{TakesSome}
-use Rattle.object_file.specs.declared.causes.Refusal.{Refusal}
-use Rattle.tool_base.specs.declared.status.Status.TheVariants as status
 use Rattle.object_file.specs.Reception.{RefusesDecode}
 
 -- the packets of the input were taken to the last; this is how its blocks come out by them, and the
@@ -54,30 +48,17 @@ pub record Decided (draws : Option ℕ) (early : Bool) (most : ℕ) (input input
       outcomes object text
   pub status : outcome_status outcomes ≡ ended
 
+-- what is due of a `decode` whose blocks come out with this status: the object, where each has its
+-- source, and what is said of them
+abbrev pub DecodeDue : Option ℕ → Bool → ℕ → Stream → Stream → Hearing → Hearing → Due
+DecodeDue draws early most input input_now watch watch_now ended out text =
+    (d : Decided draws early most input input_now watch watch_now ended)
+    × (out ≡ if_done ended d.object) × (text ≡ d.text)
+
 -- what a `decode` does
-pub record IsDecodeRun (draws : Option ℕ) (early : Bool) (most : ℕ) (before after : Streams)
-    (watch watch_now : Hearing) (ended : Status) : Type 0 where
-  -- Done: the output has grown by the object, and the report by its text
-  pub done : ended ≡ status.Done
-      → (d : Decided draws early most before.input after.input watch watch_now status.Done)
-      × Appends before.output.bytes after.output.bytes d.object
-      × Appends before.report.bytes after.report.bytes d.text
-  -- WriteFault: a run that was to end so was cut by a sink that failed
-  pub cut : ended ≡ status.WriteFault
-      → (d : Decided draws early most before.input after.input watch watch_now status.Done)
-      × IsCut d.object d.text before.output after.output before.report after.report
-  -- NoCodeword, Undetermined: the report says how each block came out
-  pub undecided : (ended ≡ status.NoCodeword) ⊎ (ended ≡ status.Undetermined)
-      → (d : Decided draws early most before.input after.input watch watch_now ended)
-      × IsTold d.text before.report after.report
-  -- the other statuses: the first refusal, which the report names
-  pub refused : IsRefused ended → (refusal : Refusal) × (ended ≡ refusal_status refusal)
-      × RefusesDecode draws early most before.input after.input watch watch_now refusal
-      × IsTold (refusal_text refusal) before.report after.report
-  -- no output but at Done and WriteFault
-  pub unwritten : ended ≢ status.Done → ended ≢ status.WriteFault
-      → Keeps before.output.bytes after.output.bytes
-  -- what was taken is a front of the input
-  pub taken : TakesSome before.input.bytes after.input.bytes
-  -- no status is left but these
-  pub ends : ended ≢ status.Usage
+abbrev pub IsDecodeRun : Option ℕ → Bool → ℕ → Streams → Streams → Hearing → Hearing → Status
+    → Type 0
+IsDecodeRun draws early most before after watch watch_now ended =
+    EndsOrRefuses (DecodeDue draws early most before.input after.input watch watch_now)
+    (RefusesDecode draws early most before.input after.input watch watch_now) before.output
+    after.output before.report after.report ended

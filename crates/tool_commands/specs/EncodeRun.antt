@@ -1,6 +1,6 @@
 -- What an `encode` does.
-use Rattle.std.specs.Io.KnownBytes.{Appends, Consumes, IsAtEnd, Keeps}
-use Rattle.std.specs.Prelude.{List, Option, Some, length, ℕ, ⊤, ◌<◌, ◌≡◌, ◌≢◌, ◌⊎◌}
+use Rattle.std.specs.Io.KnownBytes.{Consumes, IsAtEnd}
+use Rattle.std.specs.Prelude.{List, Option, Some, length, ℕ, ⊤, ◌<◌, ◌≡◌, ◌⊎◌}
 use Rattle.fec_base.specs.Causes.{Rose}
 use Rattle.packet_file.specs.Header.{IsHeader, size_fault}
 use Rattle.packet_file.specs.Taking.{TakesAtMost}
@@ -13,9 +13,8 @@ use Rattle.object_file.specs.File.{IsEncoding}
 use Rattle.object_file.specs.Options.{header_for}
 use Rattle.fec_base.specs.Outside.{Stream}
 use Rattle.tool_commands.specs.Outside.{Streams}
-use Rattle.object_file.specs.Refusals.{IsRefused, refusal_status, refusal_text}
-use Rattle.tool_commands.specs.Written.{IsCut, IsTold}
-use Rattle.fec_base.specs.Bytes.{AppendsPart}
+use Rattle.object_file.specs.Refusals.{refusal_text}
+use Rattle.tool_commands.specs.Ending.{Due, EndsOrRefuses, IsPartOf}
 use Rattle.object_file.specs.declared.options.EncodeOptions.{EncodeOptions}
 use Rattle.object_file.specs.declared.causes.Refusal.{Refusal}
 use Rattle.object_file.specs.declared.causes.Refusal.TheVariants.{Draws, File, Memory, Watch}
@@ -47,35 +46,25 @@ RefusesEncode o input input_now (Draws b) = (object : List ℕ)
     × IsFirstOver (header_for o (length object)) o.shape.draws b
 RefusesEncode o input input_now Watch = ⊥
 
--- the input was read to its end, and these are its packet file and its report
-pub record Encoded (o : EncodeOptions) (input input_now : Stream) : Type 0 where
-  pub object : List ℕ
-  pub file : List ℕ
-  pub text : List ℕ
-  pub reads : ReadsObject o input.bytes input_now.bytes object
-  pub encoding : IsEncoding (header_for o (length object)) o.shape.draws object file text
+-- the input was read to its end, and this is its packet file and the report
+pub record Encoded (o : EncodeOptions) (input input_now : Stream) (file text : List ℕ) : Type 0
+  where
+    pub object : List ℕ
+    pub reads : ReadsObject o input.bytes input_now.bytes object
+    pub encoding : IsEncoding (header_for o (length object)) o.shape.draws object file text
+
+-- what is due of an `encode`: its packet file; where memory lacked for the codeword of a block, a
+-- part of it from its front on
+abbrev pub EncodeDue : EncodeOptions → Stream → Stream → Due
+EncodeDue o input input_now status.Done out text = Encoded o input input_now out text
+EncodeDue o input input_now status.Memory out text = (file : List ℕ) × (report : List ℕ)
+    × Encoded o input input_now file report × IsPartOf file out × (text ≡ refusal_text Memory)
+EncodeDue o input input_now _ out text = ⊥
 
 -- what an `encode` does
 pub record IsEncodeRun (o : EncodeOptions) (before after : Streams) (ended : Status) : Type 0 where
-  -- Done: the output has grown by the packet file of the whole input, and the report by its text
-  pub done : ended ≡ status.Done → (e : Encoded o before.input after.input)
-      × Appends before.output.bytes after.output.bytes e.file
-      × Appends before.report.bytes after.report.bytes e.text
-  -- WriteFault: a run that was to end so was cut by a sink that failed
-  pub cut : ended ≡ status.WriteFault → (e : Encoded o before.input after.input)
-      × IsCut e.file e.text before.output after.output before.report after.report
-  -- Memory: nothing was written, or a part of the packet file from its front on
-  pub memory : ended ≡ status.Memory → Keeps before.output.bytes after.output.bytes
-      ⊎ ((e : Encoded o before.input after.input)
-      × AppendsPart before.output.bytes after.output.bytes e.file)
-  -- the other statuses: the first refusal, which the report names
-  pub refused : IsRefused ended → (refusal : Refusal) × (ended ≡ refusal_status refusal)
-      × RefusesEncode o before.input after.input refusal
-      × IsTold (refusal_text refusal) before.report after.report
-  -- no output but at Done, WriteFault and Memory
-  pub unwritten : IsRefused ended → ended ≢ status.Memory
-      → Keeps before.output.bytes after.output.bytes
+  pub ends : EndsOrRefuses (EncodeDue o before.input after.input)
+      (RefusesEncode o before.input after.input) before.output after.output before.report
+      after.report ended
   -- what was taken is a front of the input, at most so much
   pub taken : TakesAtMost before.input.bytes after.input.bytes most_taken
-  -- no status is left but these
-  pub ends : IsRefused ended ⊎ ((ended ≡ status.Done) ⊎ (ended ≡ status.WriteFault))

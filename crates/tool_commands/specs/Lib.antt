@@ -1,9 +1,11 @@
 pub mod Asking
 pub mod Outside
 pub mod Written
+pub mod Ending
 pub mod Outcomes
 pub mod EncodeRun
 pub mod DecodeRun
 pub mod PassRun
 pub mod PerfRun
+pub mod Ready
 pub mod Run

@@ -59,3 +59,8 @@ outcome_status outcomes =
     if list_any is_contradicted outcomes then status.NoCodeword
     else if list_any is_undetermined outcomes then status.Undetermined
     else status.Done
+
+-- the bytes at Done, and else none
+abbrev pub if_done : Status → List ℕ → List ℕ
+if_done status.Done bytes = bytes
+if_done _ bytes = []

@@ -1,7 +1,6 @@
 -- What a `perf` does: the code that its words describe is built, and runs of a decoder over the
 -- symbols of one block are written, line by line.
-use Rattle.std.specs.Io.KnownBytes.{Appends, Keeps}
-use Rattle.std.specs.Prelude.{List, None, Some, length, ℕ, ⊤, ◌*◌, ◌<◌, ◌≡◌, ◌≢◌, ◌≤◌, ◌⊎◌}
+use Rattle.std.specs.Prelude.{List, None, Some, [], length, ℕ, ⊤, ◌*◌, ◌<◌, ◌≡◌, ◌≤◌}
 use Rattle.loss_runs.specs.Lines.{trial_text}
 use Rattle.loss_runs.specs.Ends.{AreRuns}
 use Rattle.loss_runs.specs.Trials.{trial_of}
@@ -13,11 +12,9 @@ use Rattle.staircase.specs.Staircase.{CountedMatrix}
 use Rattle.tool_base.specs.BlockCode.{shape_matrix}
 use Rattle.tool_base.specs.Options.{codec_word}
 use Rattle.tool_base.specs.declared.status.Status.{Status}
-use Rattle.fec_base.specs.Outside.{Stream}
 use Rattle.tool_commands.specs.Outside.{Streams}
-use Rattle.object_file.specs.Refusals.{IsRefused, refusal_status, refusal_text}
-use Rattle.tool_commands.specs.Written.{IsTold, OutputFails}
-use Rattle.fec_base.specs.Bytes.{AppendsPart}
+use Rattle.object_file.specs.Refusals.{refusal_text}
+use Rattle.tool_commands.specs.Ending.{Due, EndsOrRefuses, IsPartOf}
 use Rattle.tool_commands.specs.declared.options.PerfOptions.{PerfOptions}
 use Rattle.object_file.specs.declared.causes.Refusal.{Refusal}
 use Rattle.object_file.specs.declared.causes.Refusal.TheVariants.{Draws, File, Memory, Watch}
@@ -51,27 +48,18 @@ RefusesPerf o (Draws b) =
     (b ≡ 0) × (block_bytes o ≤ 268435456) × (shape_matrix o.shape o.k o.n ≡ None)
 RefusesPerf o Watch = ⊥
 
--- what a `perf` does to the output and the report
-pub record Tries (o : PerfOptions) (output output_now report report_now : Stream) (ended : Status)
-    : Type 0 where
-  -- Done: the output has grown by the lines, and nothing is reported
-  pub done : ended ≡ status.Done → (t : Tried o)
-      × Appends output.bytes output_now.bytes (tried_text o t) × (report_now ≡ report)
-  -- WriteFault: the output failed
-  pub cut : ended ≡ status.WriteFault → (t : Tried o)
-      × OutputFails (tried_text o t) output output_now report report_now
-  -- Memory: nothing was written, or a part of the lines from their front on
-  pub memory : ended ≡ status.Memory → Keeps output.bytes output_now.bytes
-      ⊎ ((t : Tried o) × AppendsPart output.bytes output_now.bytes (tried_text o t))
-  -- the other statuses: the first refusal, which the report names
-  pub refused : IsRefused ended → (refusal : Refusal) × (ended ≡ refusal_status refusal)
-      × RefusesPerf o refusal × IsTold (refusal_text refusal) report report_now
-  -- no output but at Done, WriteFault and Memory
-  pub unwritten : IsRefused ended → ended ≢ status.Memory → Keeps output.bytes output_now.bytes
-  -- no status is left but these
-  pub ends : IsRefused ended ⊎ ((ended ≡ status.Done) ⊎ (ended ≡ status.WriteFault))
+-- what is due of a `perf`: the lines, and no report; where memory lacked within the runs, a part of
+-- the lines from their front on
+abbrev pub PerfDue : PerfOptions → Due
+PerfDue o status.Done out text = (t : Tried o) × (out ≡ tried_text o t) × (text ≡ [])
+PerfDue o status.Memory out text = (t : Tried o) × IsPartOf (tried_text o t) out
+    × (text ≡ refusal_text Memory)
+PerfDue o _ out text = ⊥
 
 -- what a `perf` does: nothing is read
 pub record IsPerfRun (o : PerfOptions) (before after : Streams) (ended : Status) : Type 0 where
   pub input : after.input ≡ before.input
-  pub tries : Tries o before.output after.output before.report after.report ended
+  pub ends : EndsOrRefuses (PerfDue o) (RefusesPerf o) before.output after.output before.report
+      after.report ended
+  -- Done: the report isn't touched
+  pub quiet : ended ≡ status.Done → after.report ≡ before.report

@@ -1,25 +1,21 @@
 // The `decode` of a packet file.
-ghost use Rattle.std.specs.Prelude.{◌≡◌, ◌≢◌, ◌≤◌, ◌<◌, ◌-◌, ◌⊎◌, ◌++◌, [], ℕ, List, take, length};
+ghost use Rattle.std.specs.Prelude.{◌≡◌, ◌≤◌, ◌<◌, ◌-◌, ◌++◌, [], ℕ, take, length};
 ghost use Rattle.std.specs.Prelude.{slice_index, slice_index_or, IfOk, OnOk, OnErr};
 ghost use Rattle.std.specs.List.{flat_map};
-ghost use Rattle.std.specs.Io.KnownBytes.{Appends, Keeps};
+ghost use Rattle.std.specs.Io.KnownBytes.{Appends};
 ghost use Rattle.fec_base.specs.Bytes.{AppendsFront};
 ghost use Rattle.fec_base.specs.Causes.{HasCause};
 ghost use Rattle.peeling.specs.Decoder.{Decoder};
-ghost use Rattle.fec_session.specs.Session.{ComeOut};
 ghost use Rattle.fec_session.specs.declared.outcome.Outcome.{Outcome};
 ghost use Rattle.packet_file.specs.Header.{source_counts};
 ghost use Rattle.tool_commands.specs.DecodeRun.{IsDecodeRun};
-ghost use Rattle.tool_commands.specs.Outcomes.{decode_report, object_of, outcome_status};
-ghost use Rattle.tool_commands.specs.Outcomes.{source_bytes};
+ghost use Rattle.tool_commands.specs.Ending.{EndsOrRefuses};
+ghost use Rattle.tool_commands.specs.Outcomes.{if_done, object_of, outcome_status, source_bytes};
+ghost use Rattle.tool_commands.specs.Ready.{CoresDue, IsMemory, OutcomesDue};
 ghost use Rattle.fec_base.specs.Outside.{hearing, stream};
 ghost use Rattle.tool_commands.specs.Outside.{seen};
 ghost use Rattle.object_file.specs.Receiving.{HasSource, HaveSource, HoldsCount};
-ghost use Rattle.object_file.specs.Refusals.{IsRefused, refusal_text};
 ghost use Rattle.object_file.specs.Staged.{PassesOn};
-ghost use Rattle.tool_commands.specs.Written.{IsCut, IsTold};
-ghost use Rattle.object_file.specs.declared.causes.Refusal.{Refusal};
-ghost use Rattle.object_file.specs.declared.causes.Refusal.TheVariants.{Memory};
 
 use crate::{Ended, conclude, outcome_status, put_decode_report, refuse, tell};
 use fec_base::{NoMemory, Sink, Source, Watch, WriteFailed};
@@ -70,33 +66,12 @@ fn finish<K: Sink, R: Sink, W: Watch>(
     requires sized { (b : ℕ) (d : Decoder) → b < length received.receiver.cores
         → (slice_index_or received.receiver.cores b d).matrix.k
         ≡ slice_index (source_counts received.header) b }
-    ensures done { result.status ≡ Status.Done → (outcomes : List Outcome)
-        × (outcome_status outcomes ≡ Status.Done) × ComeOut received.receiver.cores outcomes
-        × Appends (K.held output.old) (K.held output.new)
-        (object_of outcomes received.header.oti.length)
-        × Appends (R.held report.old) (R.held report.new)
-        (decode_report outcomes received.packets) }
-    ensures cut { result.status ≡ Status.WriteFault → (outcomes : List Outcome)
-        × (outcome_status outcomes ≡ Status.Done) × ComeOut received.receiver.cores outcomes
-        × IsCut (object_of outcomes received.header.oti.length)
-        (decode_report outcomes received.packets)
+    ensures ends { EndsOrRefuses
+        (CoresDue received.receiver.cores received.header.oti.length received.packets) IsMemory
         (stream (K.held output.old) (K.faults output.old))
         (stream (K.held output.new) (K.faults output.new))
         (stream (R.held report.old) (R.faults report.old))
-        (stream (R.held report.new) (R.faults report.new)) }
-    ensures undecided { (result.status ≡ Status.NoCodeword) ⊎ (result.status ≡ Status.Undetermined)
-        → (outcomes : List Outcome) × (outcome_status outcomes ≡ result.status)
-        × ComeOut received.receiver.cores outcomes
-        × IsTold (decode_report outcomes received.packets)
-        (stream (R.held report.old) (R.faults report.old))
-        (stream (R.held report.new) (R.faults report.new)) }
-    ensures memory { result.status ≡ Status.Memory → IsTold (refusal_text Memory)
-        (stream (R.held report.old) (R.faults report.old))
-        (stream (R.held report.new) (R.faults report.new)) }
-    ensures unwritten { result.status ≢ Status.Done → result.status ≢ Status.WriteFault
-        → Keeps (K.held output.old) (K.held output.new) }
-    ensures ends { IsRefused result.status → result.status ≡ Status.Memory }
-    ensures asked { result.status ≢ Status.Usage }
+        (stream (R.held report.new) (R.faults report.new)) result.status }
     ensures watch { result.watch ≡ received.receiver.watch }
 {
     let Received {
@@ -133,40 +108,52 @@ fn write_outcomes<K: Sink, R: Sink, W: Watch>(
     requires sized { (b : ℕ) (o : Outcome) → b < length finished.now.outcomes
         → HoldsCount (slice_index (source_counts header.now) b)
         (slice_index_or finished.now.outcomes b o) }
-    ensures done { result ≡ Status.Done → (outcome_status finished.now.outcomes ≡ Status.Done)
-        × Appends (K.held output.old) (K.held output.new)
-        (object_of finished.now.outcomes header.now.oti.length)
-        × Appends (R.held report.old) (R.held report.new)
-        (decode_report finished.now.outcomes packets) }
-    ensures cut { result ≡ Status.WriteFault → (outcome_status finished.now.outcomes ≡ Status.Done)
-        × IsCut (object_of finished.now.outcomes header.now.oti.length)
-        (decode_report finished.now.outcomes packets)
+    ensures ends { EndsOrRefuses
+        (OutcomesDue finished.now.outcomes header.now.oti.length packets) IsMemory
         (stream (K.held output.old) (K.faults output.old))
         (stream (K.held output.new) (K.faults output.new))
         (stream (R.held report.old) (R.faults report.old))
-        (stream (R.held report.new) (R.faults report.new)) }
-    ensures undecided { (result ≡ Status.NoCodeword) ⊎ (result ≡ Status.Undetermined)
-        → (outcome_status finished.now.outcomes ≡ result)
-        × IsTold (decode_report finished.now.outcomes packets)
-        (stream (R.held report.old) (R.faults report.old))
-        (stream (R.held report.new) (R.faults report.new)) }
-    ensures memory { result ≡ Status.Memory → IsTold (refusal_text Memory)
-        (stream (R.held report.old) (R.faults report.old))
-        (stream (R.held report.new) (R.faults report.new)) }
-    ensures unwritten { result ≢ Status.Done → result ≢ Status.WriteFault
-        → Keeps (K.held output.old) (K.held output.new) }
-    ensures ends { IsRefused result → result ≡ Status.Memory }
-    ensures asked { result ≢ Status.Usage }
+        (stream (R.held report.new) (R.faults report.new)) result }
 {
     let Ok(mut staging) = Staging::new(alloc, STAGING_LEN) else {
         return refuse(report, Refusal::Memory);
     };
     let status = outcome_status(finished);
-    if status == Status::Done && write_object(&mut staging, output, header, finished).is_err() {
-        return tell(report, Status::WriteFault);
+    match write_if_done(&mut staging, output, header, finished, status) {
+        Ok(()) => {}
+        Err(WriteFailed) => return tell(report, Status::WriteFault),
     }
     let reported = put_decode_report(report, finished, packets);
     conclude(reported, status)
+}
+
+// Writes the object where the blocks have this status and each has its source, and else nothing.
+fn write_if_done<K: Sink, W: Watch>(
+    staging: &mut Staging,
+    sink: &mut K,
+    header: &Header,
+    finished: &Finished<W>,
+    status: Status,
+) -> Result<(), WriteFailed>
+    requires status { outcome_status finished.now.outcomes ≡ status }
+    requires sized { (b : ℕ) (o : Outcome) → b < length finished.now.outcomes
+        → HoldsCount (slice_index (source_counts header.now) b)
+        (slice_index_or finished.now.outcomes b o) }
+    requires counted { length finished.now.outcomes ≡ length (source_counts header.now) }
+    requires empty { staging.old.bytes ≡ [] }
+    requires room { staging.old.room ≡ 262144 }
+    ensures written { OnOk result (Appends (K.held sink.old) (K.held sink.new)
+        (if_done status (object_of finished.now.outcomes header.now.oti.length))) }
+    ensures done { OnErr result (status ≡ Status.Done) }
+    ensures cut { OnErr result (AppendsFront (K.held sink.old) (K.held sink.new)
+        (object_of finished.now.outcomes header.now.oti.length)) }
+    ensures cause { HasCause (K.faults sink.old) (K.faults sink.new) result }
+{
+    if status != Status::Done {
+        return Ok(());
+    }
+    write_object(staging, sink, header, finished)?;
+    Ok(())
 }
 
 // Writes the object, of which each block has its source, by a staging buffer in which nothing

@@ -1,23 +1,20 @@
 // The `encode` of an object: its packet file, made ready and written.
-ghost use Rattle.std.specs.Prelude.{◌≡◌, ◌<◌, ◌⊎◌, ◌++◌, [], ℕ, List, All, length};
-ghost use Rattle.std.specs.Prelude.{sum_by, IfOk, IfErr, OnOk, OnErr};
+ghost use Rattle.std.specs.Prelude.{◌≡◌, ◌<◌, [], ℕ, List, All, length, IfOk, IfErr, OnOk, OnErr};
 ghost use Rattle.std.specs.Io.KnownBytes.{Appends};
 ghost use Rattle.tool_base.specs.Ranges.{IsInRange};
-ghost use Rattle.fec_base.specs.Bytes.{AppendsFront, AppendsPart};
+ghost use Rattle.fec_base.specs.Bytes.{AppendsFront};
 ghost use Rattle.fec_base.specs.Causes.{HasCause};
-ghost use Rattle.packet_file.specs.Header.{header_bytes};
 ghost use Rattle.packet_file.specs.Taking.{TakesAtMost};
 ghost use Rattle.tool_commands.specs.EncodeRun.{IsEncodeRun, ReadsObject, RefusesEncode};
 ghost use Rattle.object_file.specs.Taken.{most_taken};
-ghost use Rattle.object_file.specs.File.{encode_report, packets};
+ghost use Rattle.object_file.specs.File.{encode_report};
 ghost use Rattle.object_file.specs.Made.{AreCodewords, IsMade, IsReadyToWrite};
 ghost use Rattle.object_file.specs.Options.{header_for};
 ghost use Rattle.object_file.specs.Asking.{encode_command};
 ghost use Rattle.fec_base.specs.Outside.{stream};
 ghost use Rattle.tool_commands.specs.Outside.{seen};
-ghost use Rattle.object_file.specs.Refusals.{refusal_text};
-ghost use Rattle.tool_commands.specs.Written.{IsCut, IsTold};
-ghost use Rattle.object_file.specs.declared.causes.Refusal.TheVariants.{Memory};
+ghost use Rattle.tool_commands.specs.Ending.{EndsBy, FrontOf};
+ghost use Rattle.tool_commands.specs.Ready.{FileDue};
 
 use crate::{conclude, put_numbered, refuse, tell};
 use fec_base::{Sink, Source, WriteFailed};
@@ -72,29 +69,13 @@ fn deliver<K: Sink, R: Sink>(alloc: Global, made: Made, output: &mut K, report: 
     requires ready { IsReadyToWrite made.header made.codes.items made.object.items }
     requires empty { made.staging.bytes ≡ [] }
     requires room { made.staging.room ≡ 262144 }
-    ensures done { result ≡ Status.Done → (words : List (List (List ℕ)))
+    ensures ends { (words : List (List (List ℕ)))
         → AreCodewords made.header made.codes.items made.object.items words
-        → Appends (K.held output.old) (K.held output.new)
-        (header_bytes made.header ++ packets words)
-        × Appends (R.held report.old) (R.held report.new)
-        (encode_report (length words) (sum_by length words)) }
-    ensures cut { result ≡ Status.WriteFault → (words : List (List (List ℕ)))
-        → AreCodewords made.header made.codes.items made.object.items words
-        → IsCut (header_bytes made.header ++ packets words)
-        (encode_report (length words) (sum_by length words))
+        → EndsBy (FileDue made.header words) (FrontOf (FileDue made.header words))
         (stream (K.held output.old) (K.faults output.old))
         (stream (K.held output.new) (K.faults output.new))
         (stream (R.held report.old) (R.faults report.old))
-        (stream (R.held report.new) (R.faults report.new)) }
-    ensures memory { result ≡ Status.Memory → (words : List (List (List ℕ)))
-        → AreCodewords made.header made.codes.items made.object.items words
-        → AppendsPart (K.held output.old) (K.held output.new)
-        (header_bytes made.header ++ packets words) }
-    ensures told { result ≡ Status.Memory → IsTold (refusal_text Memory)
-        (stream (R.held report.old) (R.faults report.old))
-        (stream (R.held report.new) (R.faults report.new)) }
-    ensures ends { (result ≡ Status.Memory)
-        ⊎ ((result ≡ Status.Done) ⊎ (result ≡ Status.WriteFault)) }
+        (stream (R.held report.new) (R.faults report.new)) result }
     ensures bytes { All (λ byte. byte < 256) made.object.items }
 {
     let Made {

@@ -3,7 +3,8 @@ ghost use Rattle.std.specs.Prelude.{◌≡◌, ◌≤◌, IfOk, IfErr, Some};
 ghost use Rattle.tool_base.specs.BlockCode.{shape_matrix};
 ghost use Rattle.tool_base.specs.Ranges.{IsInRange};
 ghost use Rattle.fec_base.specs.Outside.{stream};
-ghost use Rattle.tool_commands.specs.PerfRun.{RefusesPerf, Tries, block_bytes};
+ghost use Rattle.tool_commands.specs.Ending.{EndsOrRefuses};
+ghost use Rattle.tool_commands.specs.PerfRun.{PerfDue, RefusesPerf, block_bytes};
 ghost use Rattle.tool_commands.specs.Asking.{perf_command};
 
 use crate::{PerfOptions, refuse, tell};
@@ -27,11 +28,12 @@ pub fn perf<K: Sink, R: Sink>(
     report: &mut R,
 ) -> Status
     requires { IsInRange (perf_command options.now) }
-    ensures { Tries options.now
+    ensures ends { EndsOrRefuses (PerfDue options.now) (RefusesPerf options.now)
         (stream (K.held output.old) (K.faults output.old))
         (stream (K.held output.new) (K.faults output.new))
         (stream (R.held report.old) (R.faults report.old))
         (stream (R.held report.new) (R.faults report.new)) result }
+    ensures quiet { result ≡ Status.Done → report.new ≡ report.old }
 {
     let built = match build_shape(alloc, options) {
         Ok(built) => built,

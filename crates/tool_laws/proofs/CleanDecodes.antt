@@ -20,12 +20,10 @@ use Rattle.tool_base.specs.declared.status.Status.TheVariants as status
 use Rattle.object_file.specs.Codes.{IsFirstOver}
 use Rattle.fec_base.specs.Outside.{Hearing}
 use Rattle.tool_commands.specs.Outside.{Streams}
-use Rattle.tool_commands.specs.Outcomes.{outcome_status}
+use Rattle.tool_commands.specs.Outcomes.{if_done, outcome_status}
 use Rattle.object_file.specs.Received.{IsPacketFile}
-use Rattle.object_file.specs.Refusals.{IsRefused, refusal_status}
 use Rattle.object_file.specs.Told.{HasCodes}
-use Rattle.tool_commands.specs.Written.{IsCut, OutputFails, ReportFails}
-use Rattle.tool_commands.specs.DecodeRun.{Decided, Decodes, IsDecodeRun}
+use Rattle.tool_commands.specs.DecodeRun.{Decided, DecodeDue, Decodes, IsDecodeRun}
 use Rattle.object_file.specs.Reception.{FailsBefore, FailsBehind}
 use Rattle.object_file.specs.Reception.{RefusesDecode}
 use Rattle.tool_laws.specs.RoundTrip.{AreAmong, AreSent, LackNullWords}
@@ -36,7 +34,15 @@ use Rattle.tool_laws.proofs.DecodedFiles.{all_decode, chosen_right, words_decide
 use Rattle.tool_laws.proofs.NoFault.{header_taken, packet_taken}
 use Rattle.tool_laws.proofs.OneDecoding.{taken_of}
 use Rattle.tool_laws.proofs.OneReading.{length_header, same_fronts}
+use Rattle.tool_laws.proofs.Uncut.{due_or_memory, kept_of_none}
 use Rattle.object_file.proofs.Standing.{read_or_other}
+
+-- the blocks came out, and what is due of them was written and told
+abbrev ComesOut : Option ℕ → Bool → ℕ → Streams → Streams → Hearing → Hearing → Status → Type 0
+ComesOut limit early most before after watch watch_now ended =
+    (d : Decided limit early most before.input after.input watch watch_now ended)
+    × Appends before.output.bytes after.output.bytes (if_done ended d.object)
+    × Appends before.report.bytes after.report.bytes d.text
 
 -- ---- a packet file isn't refused
 
@@ -106,36 +112,19 @@ module _ (header_one : HeaderIsOne) (packet_one : PacketIsOne) (h : HeaderFields
       absurd (cc (first.over, codes b first.block))
   not_refused Watch (other, code_now, mid, opens, fails) = absurd (heard fails.0)
 
-  not_cut : (made text : List ℕ) → IsCut made text before.output after.output before.report
-      after.report → ⊥
-  not_cut made text cut = ⊎_elim
-      (λ (f : OutputFails made before.output after.output before.report after.report). clean.writes
-      f.rose)
-      (λ (f : ReportFails made text before.output after.output before.report after.report).
-      clean.reports f.rose)
-      cut
-
   -- so its blocks come out
-  module _ (ended : Status) (run : IsDecodeRun limit early most before after watch watch_now ended)
-    where
-      refused_memory : IsRefused ended → ended ≡ status.Memory
-      refused_memory is = let refused = run.refused is in refused.1
-          ∙ ap refusal_status (not_refused refused.0 refused.2)
-
   pub decided : (ended : Status) → IsDecodeRun limit early most before after watch watch_now ended
-      → OrMemory ended (Decided limit early most before.input after.input watch watch_now ended)
-  decided status.Done run = inr (run.done refl).0
-  decided status.Memory run = inl refl
-  decided status.Usage run = absurd (run.ends refl)
-  decided status.ReadFault run = inl (refused_memory status.ReadFault run tt)
-  decided status.WriteFault run = absurd (let cut = run.cut refl in not_cut cut.0.object cut.0.text
-      cut.1)
-  decided status.Malformed run = inl (refused_memory status.Malformed run tt)
-  decided status.Draws run = inl (refused_memory status.Draws run tt)
-  decided status.Limit run = inl (refused_memory status.Limit run tt)
-  decided status.Undetermined run = inr (run.undecided (inr refl)).0
-  decided status.NoCodeword run = inr (run.undecided (inl refl)).0
-  decided status.WatchFault run = inl (refused_memory status.WatchFault run tt)
+      → OrMemory ended (ComesOut limit early most before after watch watch_now ended)
+  decided ended run = ⊎_elim
+      (λ (memory : ended ≡ status.Memory). inl memory)
+      (λ stands. let (out, text, (d, object, said), written, told) = stands in inr (
+        d,
+        subst (Appends before.output.bytes after.output.bytes) object written,
+        subst (Appends before.report.bytes after.report.bytes) said told,
+      ))
+      (due_or_memory before.output after.output before.report after.report clean.writes
+      clean.reports ended (DecodeDue limit early most before.input after.input watch watch_now)
+      (RefusesDecode limit early most before.input after.input watch watch_now) not_refused run)
 
 -- ---- by packets that are chosen from an object's file
 
@@ -165,17 +154,19 @@ module _ (header_one : HeaderIsOne) (packet_one : PacketIsOne) (h : HeaderFields
       d.decodes
 
   -- so that what it writes is the object
-  writes_object : ended ≡ status.Done → Appends before.output.bytes after.output.bytes object
-  writes_object is =
-      let done = run.run.done is in
+  writes_object : ended ≡ status.Done
+      → ComesOut limit early most before after watch watch_now ended
+      → Appends before.output.bytes after.output.bytes object
+  writes_object is (d, written, told) =
       let right = chosen_right header_one packet_one limit early most h draws object sent came
-      are_sent chosen after.input.bytes watch.told watch_now.told done.0.outcomes done.0.object
-      done.0.text (bytes_decode status.Done done.0) in
-      let made : done.0.object ≡ object =
-      ⊎_elim (λ (r : (outcome_status done.0.outcomes ≡ status.Done) × (done.0.object ≡ object)).
-      r.1) (λ (e : outcome_status done.0.outcomes ≡ status.Undetermined). absurd
-      (cc (e, done.0.status))) right in
-      subst (Appends before.output.bytes after.output.bytes) made done.1
+      are_sent chosen after.input.bytes watch.told watch_now.told d.outcomes d.object d.text
+      (bytes_decode ended d) in
+      let made : d.object ≡ object =
+      ⊎_elim (λ (r : (outcome_status d.outcomes ≡ status.Done) × (d.object ≡ object)). r.1)
+      (λ (e : outcome_status d.outcomes ≡ status.Undetermined). absurd
+      (cc (e, d.status, is))) right in
+      subst (Appends before.output.bytes after.output.bytes)
+      (ap (λ s. if_done s d.object) is ∙ made) written
 
   module _ (law : UndeterminedByNullWord) (fewer : NullWordOfSubset)
       (same : ClosureHasSameNullWords) (source : NullWordHoldsSource) where
@@ -185,8 +176,8 @@ module _ (header_one : HeaderIsOne) (packet_one : PacketIsOne) (h : HeaderFields
         ⊎ ((ended ≡ status.Undetermined) × Keeps before.output.bytes after.output.bytes
         × (¬ LackNullWords h draws came))
 
-    written : Decided limit early most before.input after.input watch watch_now ended → Written
-    written d =
+    written : ComesOut limit early most before after watch watch_now ended → Written
+    written (d, out, told) =
         let decodes = bytes_decode ended d in
         let exactly = words_decide header_one packet_one limit early most h draws object sent came
         are_sent chosen after.input.bytes watch.told watch_now.told d.outcomes d.object d.text
@@ -194,12 +185,14 @@ module _ (header_one : HeaderIsOne) (packet_one : PacketIsOne) (h : HeaderFields
         ⊎_elim
         (λ (r : (outcome_status d.outcomes ≡ status.Done) × (d.object ≡ object)).
         let is : ended ≡ status.Done = sym d.status ∙ r.0 in
-        inl (is, writes_object is, exactly.0 r.0))
+        inl (is, writes_object is (d, out, told), exactly.0 r.0))
         (λ (e : outcome_status d.outcomes ≡ status.Undetermined).
         let is : ended ≡ status.Undetermined = sym d.status ∙ e in
         inr (
           is,
-          run.run.unwritten (λ done. absurd (cc (is, done))) (λ cut. absurd (cc (is, cut))),
+          kept_of_none before.output.bytes after.output.bytes
+              (subst (Appends before.output.bytes after.output.bytes)
+              (ap (λ s. if_done s d.object) is) out),
           λ lacks. absurd (cc (exactly.1 lacks, e)),
         ))
         (chosen_right header_one packet_one limit early most h draws object sent came are_sent
@@ -208,8 +201,7 @@ module _ (header_one : HeaderIsOne) (packet_one : PacketIsOne) (h : HeaderFields
     pub chosen_decoded : OrMemory ended Written
     chosen_decoded = ⊎_elim
         (λ (memory : ended ≡ status.Memory). inl memory)
-        (λ (d : Decided limit early most before.input after.input watch watch_now ended). inr
-        (written d))
+        (λ (d : ComesOut limit early most before after watch watch_now ended). inr (written d))
         (decided header_one packet_one h came (header_bytes h ++ spelled came) limit early most
         before after watch watch_now came_file run.bytes_are run.code run.codes run.clean
         run.heard ended run.run)
@@ -220,12 +212,13 @@ module _ (header_one : HeaderIsOne) (packet_one : PacketIsOne) (h : HeaderFields
       after.output.bytes object)
   all_decoded holds same source all = ⊎_elim
       (λ (memory : ended ≡ status.Memory). inl memory)
-      (λ (d : Decided limit early most before.input after.input watch watch_now ended).
+      (λ (c : ComesOut limit early most before after watch watch_now ended).
+      let d = c.0 in
       let whole = all_decode header_one packet_one limit early most h draws object sent came
       are_sent chosen after.input.bytes watch.told watch_now.told d.outcomes d.object d.text
       (bytes_decode ended d) all holds same source in
       let is : ended ≡ status.Done = sym d.status ∙ whole.0 in
-      inr (is, writes_object is))
+      inr (is, writes_object is c))
       (decided header_one packet_one h came (header_bytes h ++ spelled came) limit early most before
       after watch watch_now came_file run.bytes_are run.code run.codes run.clean run.heard ended
       run.run)

@@ -1,6 +1,6 @@
 -- What an `encode` comes to where nothing outside fails.
-use Rattle.std.proofs.Common.{◌≡◌, ◌≢◌, ◌⊎◌, inl, inr, ⊎_elim, ℕ, ◌<◌, List, length, Option, Some}
-use Rattle.std.proofs.Common.{refl, ap, ◌∙◌, subst, arith, length-append}
+use Rattle.std.proofs.Common.{◌≡◌, inl, inr, ⊎_elim, ℕ, ◌<◌, List, length, Option, Some}
+use Rattle.std.proofs.Common.{refl, ap, subst, arith, length-append}
 use Rattle.std.specs.Io.KnownBytes.{Appends, Consumes, IsAtEnd}
 use Rattle.sparse_rows.specs.Matrix.{Matrix}
 use Rattle.packet_file.specs.Header.{IsHeader, size_fault}
@@ -18,22 +18,31 @@ use Rattle.tool_base.specs.declared.status.Status.TheVariants as status
 use Rattle.object_file.specs.Codes.{IsFirstOver}
 use Rattle.object_file.specs.Options.{header_for}
 use Rattle.tool_commands.specs.Outside.{Streams}
-use Rattle.object_file.specs.Refusals.{IsRefused, refusal_status}
 use Rattle.object_file.specs.Told.{HasCodes}
-use Rattle.tool_commands.specs.Written.{IsCut, OutputFails, ReportFails}
-use Rattle.tool_commands.specs.EncodeRun.{Encoded, IsEncodeRun, IsTooLarge, RefusesEncode}
+use Rattle.fec_base.specs.Outside.{Stream}
+use Rattle.tool_commands.specs.EncodeRun.{EncodeDue, Encoded, IsEncodeRun, IsTooLarge, RefusesEncode}
 use Rattle.tool_laws.specs.RunLaws.{NothingFails, OrMemory}
 use Rattle.object_file.specs.declared.options.EncodeOptions.{EncodeOptions}
 use Rattle.object_file.specs.declared.causes.Refusal.{Refusal}
 use Rattle.object_file.specs.declared.causes.Refusal.TheVariants.{Draws, File, Memory, Watch}
 use Rattle.tool_laws.proofs.OneDecoding.{taken_all, taken_of}
+use Rattle.tool_laws.proofs.Uncut.{due_or_memory}
 
--- a status at which an `encode` doesn't end
-no_end : (ended : Status) → (IsRefused ended → ⊥) → ended ≢ status.Done → ended ≢ status.WriteFault
-    → IsRefused ended ⊎ ((ended ≡ status.Done) ⊎ (ended ≡ status.WriteFault)) → ⊥
-no_end ended refused done cut ends =
-    ⊎_elim refused (λ (e : (ended ≡ status.Done) ⊎ (ended ≡ status.WriteFault)). ⊎_elim done cut e)
-    ends
+-- what is due is the packet file, or memory lacked
+file_due : (o : EncodeOptions) (input now : Stream) (ended : Status) (out text : List ℕ)
+    → EncodeDue o input now ended out text
+    → OrMemory ended ((ended ≡ status.Done) × Encoded o input now out text)
+file_due o input now status.Done out text e = inr (refl, e)
+file_due o input now status.Memory out text due = inl refl
+file_due o input now status.Usage out text due = absurd due
+file_due o input now status.ReadFault out text due = absurd due
+file_due o input now status.WriteFault out text due = absurd due
+file_due o input now status.Malformed out text due = absurd due
+file_due o input now status.Draws out text due = absurd due
+file_due o input now status.Limit out text due = absurd due
+file_due o input now status.Undetermined out text due = absurd due
+file_due o input now status.NoCodeword out text due = absurd due
+file_due o input now status.WatchFault out text due = absurd due
 
 module _ (o : EncodeOptions) (object : List ℕ) (code : ℕ → Matrix) (before after : Streams)
     (header : IsHeader (header_for o (length object)))
@@ -102,49 +111,27 @@ module _ (o : EncodeOptions) (object : List ℕ) (code : ℕ → Matrix) (before
       absurd (cc (first.over, codes b first.block))
   not_refused Watch refuses = absurd refuses
 
-  not_cut : (made text : List ℕ) → IsCut made text before.output after.output before.report
-      after.report → ⊥
-  not_cut made text cut = ⊎_elim
-      (λ (f : OutputFails made before.output after.output before.report after.report). clean.writes
-      f.rose)
-      (λ (f : ReportFails made text before.output after.output before.report after.report).
-      clean.reports f.rose)
-      cut
-
-  abbrev Written : Status → Type 0
-  Written ended = (ended ≡ status.Done) × (e : Encoded o before.input after.input)
-      × (e.object ≡ object) × Appends before.output.bytes after.output.bytes e.file
-
-  refused_memory : (ended : Status) → IsEncodeRun o before after ended → IsRefused ended
-      → ended ≡ status.Memory
-  refused_memory ended run is = let refused = run.refused is in refused.1
-      ∙ ap refusal_status (not_refused refused.0 refused.2)
-
-  written : IsEncodeRun o before after status.Done → Written status.Done
-  written run =
-      let done = run.done refl in
-      let e : Encoded o before.input after.input = done.0 in (
-        refl,
+  -- so its file is written
+  pub encoded : (ended : Status) → IsEncodeRun o before after ended
+      → OrMemory ended ((ended ≡ status.Done) × (file : List ℕ) × (text : List ℕ)
+      × (e : Encoded o before.input after.input file text) × (e.object ≡ object)
+      × Appends before.output.bytes after.output.bytes file
+      × Appends before.report.bytes after.report.bytes text)
+  encoded ended run = ⊎_elim
+      (λ (memory : ended ≡ status.Memory). inl memory)
+      (λ stands. let (out, text, due, written, told) = stands in ⊎_elim
+      (λ (memory : ended ≡ status.Memory). inl memory)
+      (λ file. let (done, e) = file in inr (
+        done,
+        out,
+        text,
         e,
         taken_all object e.object after.input.bytes (taken_known e.object e.reads.read)
             e.reads.ended,
-        done.1,
-      )
-
-  -- so its file is written
-  pub encoded : (ended : Status) → IsEncodeRun o before after ended → OrMemory ended (Written ended)
-  encoded status.Done run = inr (written run)
-  encoded status.Memory run = inl refl
-  encoded status.Usage run = absurd (no_end status.Usage (λ none. none) (λ done. cc) (λ cut. cc)
-      run.ends)
-  encoded status.ReadFault run = inl (refused_memory status.ReadFault run tt)
-  encoded status.WriteFault run = absurd (let cut = run.cut refl in not_cut cut.0.file cut.0.text
-      cut.1)
-  encoded status.Malformed run = inl (refused_memory status.Malformed run tt)
-  encoded status.Draws run = inl (refused_memory status.Draws run tt)
-  encoded status.Limit run = inl (refused_memory status.Limit run tt)
-  encoded status.Undetermined run = absurd (no_end status.Undetermined (λ none. none) (λ done. cc)
-      (λ cut. cc) run.ends)
-  encoded status.NoCodeword run = absurd (no_end status.NoCodeword (λ none. none) (λ done. cc)
-      (λ cut. cc) run.ends)
-  encoded status.WatchFault run = inl (refused_memory status.WatchFault run tt)
+        written,
+        told,
+      ))
+      (file_due o before.input after.input ended out text due))
+      (due_or_memory before.output after.output before.report after.report clean.writes
+      clean.reports ended (EncodeDue o before.input after.input)
+      (RefusesEncode o before.input after.input) not_refused run.ends)

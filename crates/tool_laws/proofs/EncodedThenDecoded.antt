@@ -1,6 +1,6 @@
 -- A `decode` of what an `encode` wrote.
 use Rattle.std.proofs.Common.{◌≡◌, ℕ, ◌≤◌, Bool, List, [], length, Option, Some, refl, sym, subst}
-use Rattle.std.proofs.Common.{arith}
+use Rattle.std.proofs.Common.{⊎_elim, arith}
 use Rattle.std.specs.Io.KnownBytes.{Appends, Consumes}
 use Rattle.std.proofs.lemmas.List.Elements.{All-contains_itself}
 use Rattle.sparse_rows.specs.Laws.{NullWordHoldsSource}
@@ -13,15 +13,28 @@ use Rattle.tool_base.specs.declared.status.Status.{Status}
 use Rattle.tool_base.specs.declared.status.Status.TheVariants as status
 use Rattle.object_file.specs.File.{IsEncoding}
 use Rattle.object_file.specs.Options.{header_for}
-use Rattle.fec_base.specs.Outside.{Hearing}
+use Rattle.fec_base.specs.Outside.{Hearing, Stream}
 use Rattle.tool_commands.specs.Outside.{Streams}
-use Rattle.tool_commands.specs.EncodeRun.{Encoded, IsEncodeRun}
+use Rattle.tool_commands.specs.EncodeRun.{EncodeDue, Encoded, IsEncodeRun, RefusesEncode}
+use Rattle.tool_commands.specs.Ending.{IsRefusal, OrRefusal}
 use Rattle.tool_laws.specs.RunLaws.{IsCleanDecode, OrMemory}
 use Rattle.object_file.specs.declared.options.EncodeOptions.{EncodeOptions}
 use Rattle.tool_laws.proofs.CleanDecodes.{all_decoded}
 use Rattle.tool_laws.proofs.DecodedFiles.{file_sent}
 use Rattle.tool_laws.proofs.OneDecoding.{taken_all}
 use Rattle.tool_laws.proofs.SentPackets.{list_long, packet_list}
+use Rattle.tool_laws.proofs.Uncut.{no_refusal}
+
+-- what is due at Done is a packet file
+done_due : (o : EncodeOptions) (input now : Stream) (out text : List ℕ)
+    → OrRefusal (EncodeDue o input now) (RefusesEncode o input now) status.Done out text
+    → Encoded o input now out text
+done_due o input now out text due = ⊎_elim
+    (λ (e : Encoded o input now out text). e)
+    (λ (r : IsRefusal (RefusesEncode o input now) status.Done out text).
+    let (none, refusal, is, cause, named) = r in
+    absurd (no_refusal refusal is))
+    due
 
 -- what stands where nothing stood is what was appended
 appended_all : (now : List ℕ) (file : List ℕ) (old new : Option (List ℕ)) → old ≡ Some []
@@ -69,17 +82,18 @@ module _ (header_one : HeaderIsOne) (packet_one : PacketIsOne) (holds : ClosureH
       object)
   encoded_decoded o first last object file limit early most before after watch watch_now ended
       encodes input output made enough run =
-      let done = encodes.done refl in
-      let e : Encoded o first.input last.input = done.0 in
+      let (made_file, text, is_due, written, told) = encodes.ends.done refl in
+      let e : Encoded o first.input last.input made_file text = done_due o first.input last.input
+      made_file text is_due in
       let object_is : e.object ≡ object = taken_all object e.object last.input.bytes
       (subst (λ (l : Option (List ℕ)). Consumes l last.input.bytes e.object) input e.reads.read)
       e.reads.ended in
-      let file_is : file ≡ e.file = appended_all file e.file first.output.bytes last.output.bytes
-      output made done.1 in
-      let encoding : IsEncoding (header_for o (length object)) o.shape.draws object file e.text =
-      subst (λ (l : List ℕ). IsEncoding (header_for o (length object)) o.shape.draws object l
-      e.text) (sym file_is)
-      (subst (λ (l : List ℕ). IsEncoding (header_for o (length l)) o.shape.draws l e.file e.text)
+      let file_is : file ≡ made_file = appended_all file made_file first.output.bytes
+      last.output.bytes output made written in
+      let encoding : IsEncoding (header_for o (length object)) o.shape.draws object file text =
+      subst (λ (l : List ℕ). IsEncoding (header_for o (length object)) o.shape.draws object l text)
+      (sym file_is)
+      (subst (λ (l : List ℕ). IsEncoding (header_for o (length l)) o.shape.draws l made_file text)
       object_is e.encoding) in
-      file_decoded (header_for o (length object)) o.shape.draws limit object file e.text early most
+      file_decoded (header_for o (length object)) o.shape.draws limit object file text early most
       before after watch watch_now ended refl encoding enough run

@@ -1,3 +1,4 @@
+mod Uncut
 mod CleanPerfs
 mod MatrixSizes
 mod OneEncoding

@@ -18,6 +18,7 @@ use Rattle.object_file.specs.Received.{IsPacketFile}
 use Rattle.object_file.specs.Told.{HasCodes}
 use Rattle.tool_commands.specs.EncodeRun.{Encoded, IsEncodeRun}
 use Rattle.tool_commands.specs.DecodeRun.{Decided, IsDecodeRun}
+use Rattle.tool_commands.specs.Outcomes.{if_done}
 use Rattle.tool_commands.specs.PassRun.{IsPassRun, pass_report}
 use Rattle.tool_laws.specs.RoundTrip.{AreAmong, AreSent, LackNullWords}
 use Rattle.object_file.specs.declared.options.EncodeOptions.{EncodeOptions}
@@ -43,7 +44,7 @@ pub record IsCleanDecode (h : HeaderFields) (bytes : List ℕ) (limit : Option �
 abbrev pub OrMemory : Status → Type 0 → Type 0
 OrMemory ended P = (ended ≡ status.Memory) ⊎ P
 
--- an object within the limits isn't refused: its packet file is written
+-- an object within the limits isn't refused: its packet file is written, and the report
 abbrev pub ObjectIsEncoded : Type 0
 ObjectIsEncoded = (o : EncodeOptions) (object : List ℕ) (code : ℕ → Matrix)
     (before after : Streams) (ended : Status)
@@ -52,17 +53,23 @@ ObjectIsEncoded = (o : EncodeOptions) (object : List ℕ) (code : ℕ → Matrix
     → before.input.bytes ≡ Some object → NothingFails before after
     → IsEncodeRun o before after ended
     → OrMemory ended
-    ((ended ≡ status.Done) × (e : Encoded o before.input after.input) × (e.object ≡ object)
-    × Appends before.output.bytes after.output.bytes e.file)
+    ((ended ≡ status.Done) × (file : List ℕ) × (text : List ℕ)
+    × (e : Encoded o before.input after.input file text) × (e.object ≡ object)
+    × Appends before.output.bytes after.output.bytes file
+    × Appends before.report.bytes after.report.bytes text)
 
--- a packet file isn't refused: its blocks come out by its packets
+-- a packet file isn't refused: its blocks come out by its packets, the object is written where each
+-- has its source, and the report says how they came out
 abbrev pub PacketFileIsDecoded : Type 0
 PacketFileIsDecoded = (h : HeaderFields) (packets : List Packet) (bytes : List ℕ)
     (limit : Option ℕ) (early : Bool) (most : ℕ) (before after : Streams)
     (watch watch_now : Hearing) (ended : Status)
     → IsPacketFile h most packets bytes
     → IsCleanDecode h bytes limit early most before after watch watch_now ended
-    → OrMemory ended (Decided limit early most before.input after.input watch watch_now ended)
+    → OrMemory ended
+    ((d : Decided limit early most before.input after.input watch watch_now ended)
+    × Appends before.output.bytes after.output.bytes (if_done ended d.object)
+    × Appends before.report.bytes after.report.bytes d.text)
 
 -- by packets that are chosen from an object's file the object is written where in no block the
 -- positions that came have a null word, and where some have one the run ends as undetermined

@@ -1,17 +1,17 @@
-use Rattle.std.proofs.Common.{◌≡◌, List, [], inr, sym, ap, ◌∙◌, subst, ⊎_elim}
-use Rattle.std.proofs.KnownBytes.{Keeps-refl}
+use Rattle.std.proofs.Common.{◌∙◌, List, [], ℕ, inr, sym, ap, subst}
 use Rattle.sparse_rows.specs.Matrix.{Matrix}
 use Rattle.fec_session.specs.Session.{ComeOut}
 use Rattle.fec_session.specs.declared.outcome.Outcome.{Outcome}
-use Rattle.tool_base.specs.declared.status.Status.TheVariants as status
-use Rattle.tool_commands.specs.DecodeRun.{Decodes}
-use Rattle.object_file.specs.Reception.{LacksMemory}
+use Rattle.tool_base.specs.declared.status.Status.{Status}
+use Rattle.tool_commands.specs.DecodeRun.{DecodeDue, Decodes}
+use Rattle.object_file.specs.Reception.{LacksMemory, RefusesDecode}
 use Rattle.tool_commands.specs.Outcomes.{decode_report, object_of}
+use Rattle.tool_commands.specs.Ready.{CoresDue, IsMemory}
 use Rattle.fec_base.specs.Outside.{Hearing, Stream, hearing, stream}
 use Rattle.object_file.specs.Told.{StandsAt}
-use Rattle.object_file.specs.declared.causes.Refusal.TheVariants.{Memory}
+use Rattle.object_file.specs.declared.causes.Refusal.{Refusal}
 use Rattle.tool_commands.proofs.Determining.{decodes}
-use Rattle.tool_commands.proofs.Ends.{no_other}
+use Rattle.tool_commands.proofs.Endings.{ends_more, ends_refused}
 use Rattle.tool_commands.proofs.decode.decode.Goals as goal
 
 pub finish-requires-clause-counted : goal.finish-requires-clause-counted
@@ -53,70 +53,27 @@ returns-in-Ok-clause-decodes g c =
           watch.told t received.packets []) back received.stands,
       received.over,
     ) in
-    record {
-      done = λ is.
-          let (outcomes, done, out, object, text) = c.finish.ensures.done is in (
-            record {
-              outcomes = outcomes;
-              object = object_of outcomes r.header.oti.length;
-              text = decode_report outcomes r.packets;
-              decodes = whole outcomes out;
-              status = done;
-            },
-            object,
-            text,
-          );
-      cut = λ is.
-          let (outcomes, done, out, cut) = c.finish.ensures.cut is in (
-            record {
-              outcomes = outcomes;
-              object = object_of outcomes r.header.oti.length;
-              text = decode_report outcomes r.packets;
-              decodes = whole outcomes out;
-              status = done;
-            },
-            cut,
-          );
-      undecided = λ is.
-          let (outcomes, ended, out, text) = c.finish.ensures.undecided is in (
-            record {
-              outcomes = outcomes;
-              object = object_of outcomes r.header.oti.length;
-              text = decode_report outcomes r.packets;
-              decodes = whole outcomes out;
-              status = ended;
-            },
-            text,
-          );
-      refused = λ refused. let want = c.finish.ensures.ends refused in
-          (Memory, want, lacks, c.finish.ensures.memory want);
-      unwritten = c.finish.ensures.unwritten;
-      taken = c.receive.ensures.taken;
-      ends = c.finish.ensures.asked;
-    }
+    let more : (s : Status) (out text : List ℕ)
+    → CoresDue r.receiver.cores r.header.oti.length r.packets s out text
+    → DecodeDue c.args.draws c.args.early c.args.most input now watch watch_now s out text =
+    λ s out text (outcomes, come, due). (
+      record {
+        outcomes = outcomes;
+        object = object_of outcomes r.header.oti.length;
+        text = decode_report outcomes r.packets;
+        decodes = whole outcomes come;
+        status = due.0;
+      },
+      due.1,
+      due.2,
+    ) in
+    let causes : (refusal : Refusal) → IsMemory refusal
+    → RefusesDecode c.args.draws c.args.early c.args.most input now watch watch_now refusal =
+    λ refusal is. subst (RefusesDecode c.args.draws c.args.early c.args.most input now watch
+    watch_now) (sym is) lacks in
+    ends_more (CoresDue r.receiver.cores r.header.oti.length r.packets) _ IsMemory _ _ _ _ _
+    c.finish.result.status more causes c.finish.ensures.ends
 
 pub returns-in-Err-clause-decodes : goal.returns-in-Err-clause-decodes
-returns-in-Err-clause-decodes g c =
-    record {
-      done = λ is. absurd (no_other c.in-Err.refusal c.refuse.result status.Done
-          c.refuse.ensures.status is);
-      cut = λ is. absurd (no_other c.in-Err.refusal c.refuse.result status.WriteFault
-          c.refuse.ensures.status is);
-      undecided = ⊎_elim
-          (λ (none : c.refuse.result ≡ status.NoCodeword). absurd
-          (no_other c.in-Err.refusal c.refuse.result status.NoCodeword c.refuse.ensures.status
-          none))
-          (λ (several : c.refuse.result ≡ status.Undetermined). absurd
-          (no_other c.in-Err.refusal c.refuse.result status.Undetermined c.refuse.ensures.status
-          several));
-      refused = λ refused. (
-        c.in-Err.refusal,
-        c.refuse.ensures.status,
-        c.in-Err.ensures.refusal,
-        c.refuse.ensures.told,
-      );
-      unwritten = λ done cut. Keeps-refl (g.K.Sink.held c.args.output.now);
-      taken = c.receive.ensures.taken;
-      ends = λ usage. no_other c.in-Err.refusal c.refuse.result status.Usage c.refuse.ensures.status
-          usage;
-    }
+returns-in-Err-clause-decodes g c = ends_refused _ _ _ _ _ c.refuse.result c.in-Err.refusal
+    c.refuse.ensures.status c.in-Err.ensures.refusal c.refuse.ensures.told

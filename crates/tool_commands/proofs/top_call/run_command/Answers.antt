@@ -1,5 +1,6 @@
 use Rattle.std.proofs.Common.{◌≡◌, Some, ap, refl, rules}
 use Rattle.tool_base.specs.declared.command.Command.TheVariants as command
+use Rattle.fec_base.specs.Outside.{stream}
 use Rattle.tool_commands.proofs.Running.{runs_asked}
 use Rattle.tool_commands.proofs.top_call.run_command.Goals as goal
 
@@ -10,32 +11,14 @@ returns-in-Encode-clause-runs g c =
     let is : Some c.args.command ≡ Some asked = search rules in
     let run = c.encode-status.ensures in
     runs_asked _ _ _ _ _ (Some c.args.command) (Some asked) is
-    (record {
-      done = run.done;
-      cut = run.cut;
-      memory = run.memory;
-      refused = run.refused;
-      unwritten = run.unwritten;
-      taken = run.taken;
-      ends = run.ends;
-    })
+    (record { ends = run.ends; taken = run.taken })
 
 pub returns-in-Decode-clause-runs : goal.returns-in-Decode-clause-runs
 returns-in-Decode-clause-runs g c =
     let d = c.in-Decode in
     let asked = command.Decode d.draws d.early d.packets in
     let is : Some c.args.command ≡ Some asked = search rules in
-    let run = c.decode.ensures.decodes in
-    runs_asked _ _ _ _ _ (Some c.args.command) (Some asked) is
-    (record {
-      done = run.done;
-      cut = run.cut;
-      undecided = run.undecided;
-      refused = run.refused;
-      unwritten = run.unwritten;
-      taken = run.taken;
-      ends = run.ends;
-    })
+    runs_asked _ _ _ _ _ (Some c.args.command) (Some asked) is c.decode.ensures.decodes
 
 pub returns-in-Decode-clause-watch : goal.returns-in-Decode-clause-watch
 returns-in-Decode-clause-watch g c apart =
@@ -77,16 +60,10 @@ returns-in-Perf-clause-runs g c =
     let p = c.in-Perf in
     let asked = command.Perf p.shape p.symbol p.k p.n p.loss p.random p.runs p.run_seed in
     let is : Some c.args.command ≡ Some asked = search rules in
-    let tries = c.perf-status.ensures in
+    let run = c.perf-status.ensures in
     runs_asked _ _ _ _ _ (Some c.args.command) (Some asked) is
     (record {
       input = refl;
-      tries = record {
-        done = tries.done;
-        cut = tries.cut;
-        memory = tries.memory;
-        refused = tries.refused;
-        unwritten = tries.unwritten;
-        ends = tries.ends;
-      };
+      ends = run.ends;
+      quiet = λ done. ap (λ r. stream (g.R.Sink.held r) (g.R.Sink.faults r)) (run.quiet done);
     })
