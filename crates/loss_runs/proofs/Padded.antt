@@ -5,7 +5,8 @@ use Rattle.std.proofs.Common.{append_assoc, append-nil, length-append, eq-or-lt_
 use Rattle.std.specs.Io.KnownBytes.{Appends}
 use Rattle.std.proofs.KnownBytes.{Appends-nil, Appends-trans}
 use Rattle.std.proofs.lemmas.List.{get_or_append_left, get_or_push}
-use Rattle.fec_base.specs.Bytes.{AppendsFront, AppendsPart}
+use Rattle.fec_base.specs.Bytes.{AppendsFront}
+use Rattle.fec_base.specs.Parts.{AppendsPart}
 use Rattle.sparse_rows.specs.Matrix.{HasShape}
 use Rattle.sparse_rows.specs.Codeword.{IsEncoded}
 use Rattle.loss_runs.specs.Trials.{Trial, source_of}

@@ -1,7 +1,8 @@
 // The runs of a plan, written line by line.
 ghost use Rattle.std.specs.Prelude.{◌≡◌, ◌+◌, ◌<◌, ◌≤◌, ℕ, List, Err, IfOk, OnOk, length};
 ghost use Rattle.std.specs.Io.KnownBytes.{Appends};
-ghost use Rattle.fec_base.specs.Bytes.{AppendsFront, AppendsPart};
+ghost use Rattle.fec_base.specs.Bytes.{AppendsFront};
+ghost use Rattle.fec_base.specs.Parts.{AppendsPart};
 ghost use Rattle.fec_base.specs.Causes.{Rose};
 ghost use Rattle.loss_runs.specs.Trials.{trial_of};
 ghost use Rattle.loss_runs.specs.Plans.{IsPlan};

@@ -3,7 +3,8 @@ use Rattle.std.proofs.Common.{◌≡◌, List, [], ◌++◌, ℕ, Option, sym, a
 use Rattle.std.proofs.Common.{append_assoc, append-nil}
 use Rattle.std.specs.Io.KnownBytes.{Appends}
 use Rattle.std.proofs.KnownBytes.{Appends-trans}
-use Rattle.fec_base.specs.Bytes.{AppendsFront, AppendsPart}
+use Rattle.fec_base.specs.Bytes.{AppendsFront}
+use Rattle.fec_base.specs.Parts.{AppendsPart}
 use Rattle.fec_base.proofs.Cuts.{cut_longer}
 use Rattle.object_file.specs.Staged.{PassesOn, PassesPart}
 use Rattle.object_file.proofs.Passing.{packets_cut, end_cut, end_whole}

@@ -2,7 +2,8 @@
 ghost use Rattle.std.specs.Prelude.{◌≡◌, ◌≤◌, ◌<◌, ◌++◌, [], ℕ, List, length, slice_index_or, All};
 ghost use Rattle.std.specs.Prelude.{Err, IfOk, OnOk, OnErr};
 ghost use Rattle.std.specs.Io.KnownBytes.{Appends};
-ghost use Rattle.fec_base.specs.Bytes.{AppendsFront, AppendsPart};
+ghost use Rattle.fec_base.specs.Bytes.{AppendsFront};
+ghost use Rattle.fec_base.specs.Parts.{AppendsPart};
 ghost use Rattle.fec_base.specs.Causes.{HasCause, Rose};
 ghost use Rattle.oti_fields.specs.Fields.{FitsIdBits};
 ghost use Rattle.packet_file.specs.Header.{header_bytes, source_counts};
