@@ -1,4 +1,5 @@
--- How an object is cut into source blocks (RFC 5052, section 9.1).
+-- How an object is cut into source blocks (RFC 5052, section 9.1), and how many encoding symbols a
+-- block has.
 use Rattle.std.specs.Prelude.{ℕ, ◌+◌, ◌-◌, ◌*◌, ◌/◌, List, ◌++◌, min, replicate}
 use Rattle.std.specs.Int.{div_ceil}
 

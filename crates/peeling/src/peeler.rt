@@ -56,10 +56,10 @@ struct Store {
 ///
 /// This decoder keeps of each row how many of its columns are unknown, the XOR of their numbers,
 /// and the sum of the known symbols. A column that becomes known is worked off once: each of its
-/// rows is read, and gains its symbol. So all arrivals together take two steps for each entry of
-/// the matrix, whatever their order, and one arrival two for each entry of the columns that it
-/// makes known. Beside the code it holds n + (n - k) symbols in one block of memory, eight bytes
-/// for each row and six for each position.
+/// rows is read, and gains its symbol. So all arrivals together take at most two steps for each
+/// entry of the matrix, whatever their order, and one arrival at most two for each entry of the
+/// columns that it makes known. Beside the code it holds n + (n - k) symbols in one block of memory,
+/// four bytes for each row and six for each position.
 #[derive(Drop)]
 pub struct Peeler {
     code: Code,
