@@ -22,7 +22,6 @@ test:
 	rt ci
 	@! command -v python3 > /dev/null || python3 tools/promises.py
 	@! command -v python3 > /dev/null || python3 tools/trusted.py --check
-	@! command -v python3 > /dev/null || python3 tools/chains.py --check
 
 #   make promises           prints the file and line of each promise of docs/PROMISES.md, and fails where one isn't there
 promises:
@@ -32,9 +31,9 @@ promises:
 trusted:
 	@python3 tools/trusted.py
 
-#   make chains             prints the ways from the promises down to their last definitions: docs/CHAINS.md
+#   make chains NAME=..     prints the way from a promise (IsDecodeRun, Peeler, ..), or from each, to its last definition
 chains:
-	@python3 tools/chains.py
+	@python3 tools/chains.py $(NAME)
 
 #   make build              proves and builds the program, and prints its path: build/eperftool
 build:

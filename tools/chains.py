@@ -1,13 +1,13 @@
 #!/usr/bin/env python3
-"""Leads from each promise down to its last definition, for docs/CHAINS.md.
+"""Leads from a promise down to its last definition.
 
-    chains.py            prints the page
-    chains.py --write    writes it to docs/CHAINS.md
-    chains.py --check    prints an error where docs/CHAINS.md is another page, with status 1
+    chains.py            prints the way of each promise
+    chains.py NAME ..    prints those whose heading has one of the names, as `IsDecodeRun` or `Peeler`
 
 A section begins with a record of promises of the program, or with a call that README.md names in
 its table of crates. Its first step is what that names, and each further step the definitions that
-those of the step before name and that no earlier step has.
+those of the step before name and that no earlier step has. Calls whose definitions end within
+three steps have no section: their clauses lead down by themselves.
 """
 import re
 import sys
@@ -15,7 +15,6 @@ import textwrap
 
 from trusted import COMMANDS, PROGRAM_LAWS, TOP, Definition, Project, counted, place
 
-PAGE = TOP / "docs" / "CHAINS.md"
 README = TOP / "README.md"
 # Fewer steps than these need no section.
 LONG = 4
@@ -26,29 +25,14 @@ RECORDS = {
     "IsPerfRun": "a run of `perf`",
     "IsUsageRun": "words that mean no command",
 }
-INTRODUCTION = """# From a promise to its last definition
-
-Who asks what a sentence of [README](../README.md) means goes three ways: to the line of
-[PROMISES](PROMISES.md), or of README's table of crates, that says it and names its record or call;
-to the section of that name on this page; and from there into the file of any definition below it,
-the last ones included.
-
-A section begins with a record of promises of the program, or with a call of a library. Its first
-step is that record, or what the contract of the call names, and each further one has what the
-definitions of the step before name. A definition stands at the first step that comes to it. Calls
-whose definitions end within three steps have no section: their clauses lead down by themselves.
-
-`make chains` prints the page, and fails where it isn't that of today. [TRUSTED](TRUSTED.md) has the
-definitions of the program and of all laws once, by crate and file.
-"""
 
 
 class Chains:
-    """The sections of the page."""
+    """The sections, one for each promise."""
 
     def __init__(self, project):
         self.project = project
-        self.contracts, self.files = {}, {}
+        self.contracts = {}
         for file in project.sources:
             for owner, is_pub, name, text in file.functions():
                 if is_pub:
@@ -114,7 +98,7 @@ class Chains:
         if len(steps) < least:
             return
         count, lines = counted([what for step in steps for what in step])
-        yield f"\n## {heading}\n\n{count} definitions, {lines} lines, in {len(steps)} steps.\n"
+        yield f"{heading}\n{count} definitions, {lines} lines, in {len(steps)} steps."
         for number, step in enumerate(steps, 1):
             files = {}
             for what in step:
@@ -124,46 +108,32 @@ class Chains:
             yield textwrap.fill(head + text, 100, subsequent_indent=" " * len(head))
 
     def where(self, what):
-        """The file that holds a definition or a type, as a link of the page."""
-        file = what.file if isinstance(what, Definition) else self.project.types[what][0]
-        label = f"{file.crate}/{file.path.stem if file.path.suffix == '.antt' else file.path.name}"
-        self.files[label] = place(file.path)
-        return f"[{label}]"
+        """The file that holds a definition or a type."""
+        return place((what.file if isinstance(what, Definition) else self.project.types[what][0]).path)
 
     def title(self, what):
         return what.name if isinstance(what, Definition) else what[1]
 
-    def links(self):
-        """Where the names of files lead."""
-        return [f"[{label}]: ../{path}" for label, path in sorted(self.files.items())]
-
-    def page(self):
-        lines, held = [INTRODUCTION.rstrip("\n")], set()
+    def sections(self):
+        """Each section as its lines."""
+        held = set()
         for name, words, found in self.records():
-            lines += self.section(f"`{name}`: {words}", found)
+            yield list(self.section(f"`{name}`: {words}", found))
             held |= self.project.closure(found)
-        heading = "The laws of the program, without what stands above"
-        lines += self.section(heading, self.laws(), held, 1)
+        yield list(self.section("The laws of the program, without what stands above", self.laws(), held, 1))
         seen = set()
         for crate, name, roots in self.calls():
             if roots and (crate, name) not in seen:
                 seen.add((crate, name))
-                lines += self.section(f"`{name}` of `{crate}`", roots)
-        return "\n".join([*lines, "", *self.links()]) + "\n"
+                yield list(self.section(f"`{name}` of `{crate}`", roots))
 
 
 def main():
-    page, words = Chains(Project()).page(), sys.argv[1:]
-    if "--write" in words:
-        PAGE.write_text(page)
-    elif "--check" not in words:
-        print(page, end="")
-    if not PAGE.is_file() or PAGE.read_text() != page:
-        error = f"{place(PAGE)}: isn't the page of today (`tools/chains.py --write`)"
-        print(error, file=sys.stderr)
-        return 1
-    return 0
+    names = sys.argv[1:]
+    for lines in Chains(Project()).sections():
+        if lines and (not names or any(name in lines[0] for name in names)):
+            print("\n".join(lines), end="\n\n")
 
 
 if __name__ == "__main__":
-    sys.exit(main())
+    main()

@@ -1,6 +1,6 @@
 #!/usr/bin/env python3
 """Finds the clause behind each promise of docs/PROMISES.md, and behind each answer of docs/CAUSES.md, the code of
-docs/LIBRARY.md in the example, and each definition that a page names with its file.
+docs/LIBRARY.md in the example, each definition that a page names with its file, and what `main` puts in a box.
 
 A line of a table ends with functions and, in brackets, clauses of their contracts, or fields of a record of promises.
 Each has to be there, in the crates that the heading above names. With `-v` each is printed with its file and line; a
@@ -21,7 +21,8 @@ FUNCTION = re.compile(r"^\s*(?:pub(?:\([a-z]+\))? )?(?:const )?fn (\w+)")
 TYPE = re.compile(r"^(?:impl(?:<[^>]*>)? (?:(\w+)(?:<[^>]*>)? for )?(\w+)|pub (?:struct|enum|trait) (\w+))")
 CLAUSE = re.compile(r"^\s*ensures\*? (\w+) \{")
 FIELD = re.compile(r"^ {2,4}pub (\w+) :")
-PLACED = re.compile(r"((?:`\w+`(?:,|,? and)?\s*)+)\((?:in )?`((?:\w+/)?specs/\w+)`")
+PLACED = re.compile(r"((?:`\w+`(?:,|,? and)?\s*)+)\((?:in )?`(?:crates/)?((?:\w+/)?specs/\w+)(?:\.antt)?`")
+BOXED = re.compile(r"a `(\w+)` in a box")
 NAMED = re.compile(r"`([\w:]+)`(?:`?: )?(?: \(([^)]*)\))?")
 
 
@@ -58,12 +59,12 @@ def functions(crate):
 
 
 def records(crate):
-    """The records of a crate's definitions by their names, with the lines of their fields."""
+    """The definitions of a crate by their names, with the lines of the fields that a record has."""
     found = {}
     for path in sorted((TOP / "crates" / crate / "specs").glob("*.antt")):
         record = None
         for number, line in enumerate(path.read_text().splitlines(), 1):
-            if match := re.match(r"^pub record (\w+)", line):
+            if match := re.match(r"^(?:pub record|abbrev pub) (\w+)", line):
                 record = found.setdefault(match[1], Place(None, match[1], path, number, {}))
             elif line and not line.startswith((" ", "--")):
                 record = None
@@ -153,9 +154,18 @@ def misplaced():
             crate, _, file = place.rpartition("specs/")
             path = TOP / "crates" / (crate.rstrip("/") or COMMANDS) / "specs" / f"{file}.antt"
             text = path.read_text() if path.is_file() else ""
-            for name in re.findall(r"`([A-Z]\w+)`", names):
+            for name in re.findall(r"`(\w+)`", names):
                 if not re.search(rf"^(?:[a-z]+ )*{name}\b", text, re.M):
                     yield f"{page.relative_to(TOP)}: `{name}` isn't in {path.relative_to(TOP)}"
+
+
+def unboxed():
+    """Of each type that a page says the program puts in a box, whether `main` doesn't make one."""
+    source = (TOP / "crates" / "eperftool" / "src" / "main.rt").read_text()
+    for page in sorted((TOP / "docs").glob("*.md")):
+        for name in BOXED.findall(page.read_text()):
+            if f"Box::new(alloc, {name}::" not in source:
+                yield f"{page.relative_to(TOP)}: `main` makes no `{name}` in a box"
 
 
 def main():
@@ -163,7 +173,7 @@ def main():
     for reader in readers:
         reader.read()
     found = [line for reader in readers for line in reader.found]
-    errors = [line for reader in readers for line in reader.errors] + list(pasted()) + list(misplaced())
+    errors = [line for reader in readers for line in reader.errors] + list(pasted()) + list(misplaced()) + list(unboxed())
     if "-v" in sys.argv[1:]:
         print("\n".join(found))
         print(f"{len(found)} functions, clauses and fields found")
