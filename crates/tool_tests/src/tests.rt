@@ -10,6 +10,7 @@ use tool_commands::run;
 mod blocks;
 mod codewords;
 mod decodes;
+mod digests;
 mod encodes;
 mod examples;
 mod passes;
