@@ -27,6 +27,19 @@ PAGE = TOP / "docs" / "TRUSTED.md"
 # The crates of the top call `run`, and of the laws of the program.
 COMMANDS, PROGRAM_LAWS = "tool_commands", "tool_laws"
 INSIDE = "-- Inside:"
+# The parts of the page, in the order of reading: which crates, and which files apart from their crate.
+CODES, TOOL, OUTSIDE = "The codes", "The format and the commands", "When something outside fails"
+CODE_CRATES = (
+    "park_miller sparse_rows parity_2d staircase triangle peeling null_witness gauss fec_session"
+    " fec_threshold partial_block clash_proof"
+).split()
+APART = {
+    ("fec_base", "Symbol"): CODES,
+    **dict.fromkeys((("fec_base", name) for name in ("Causes", "Told", "Outside", "Bytes")), OUTSIDE),
+    **dict.fromkeys((("packet_file", name) for name in ("OneReading", "Reading", "Taking")), OUTSIDE),
+    **dict.fromkeys((("object_file", name) for name in ("Reception", "Taken")), OUTSIDE),
+    **dict.fromkeys((("tool_commands", name) for name in ("Outside", "Written", "Ending")), OUTSIDE),
+}
 COUNTING = {("std.proofs.Common", "zero"), ("std.proofs.Common", "suc")}
 
 NAME = re.compile(r"\.?[A-Za-z_][\w'-]*")
@@ -339,17 +352,25 @@ class Listing:
                 at = f"{place(definition.file.path)}:{definition.line}"
                 yield f"{at}: `{definition.name}` leans on {module}"
 
-    def table(self, crate):
-        """The believed files and types of a crate."""
-        files = [file for file in self.files(crate) if self.kind(file) == "believed"]
+    def part(self, crate, name=None):
+        """The part of the page that a file is in, or a crate's types."""
+        return APART.get((crate, name)) or (CODES if crate in CODE_CRATES else TOOL)
+
+    def table(self, crate, part):
+        """The believed files of a crate that are in this part, and its types where they are."""
+        files = [
+            file
+            for file in self.files(crate)
+            if self.kind(file) == "believed" and self.part(crate, file.path.stem) == part
+        ]
         types = sorted(
             f"`{what[1]}`"
             for what in self.believed
-            if not isinstance(what, Definition) and what[0] == crate
+            if not isinstance(what, Definition) and what[0] == crate and self.part(crate) == part
         )
         held = [[d for d in f.definitions.values() if d in self.believed] for f in files]
         if files or types:
-            yield "\n## `%s`: definitions %d, lines %d\n" % (crate, *counted(sum(held, [])))
+            yield "\n### `%s`: definitions %d, lines %d\n" % (crate, *counted(sum(held, [])))
         if files:
             yield "| file | for `run` | for the laws alone |\n|---|---|---|"
         for file, definitions in zip(files, held):
@@ -383,8 +404,15 @@ class Listing:
             ("all that stands in `specs/`", held),
         ):
             lines.append("| %s | %d | %d |" % (words, *counted(part)))
-        for crate in self.crates:
-            lines += self.table(crate)
+        for part in (CODES, TOOL, OUTSIDE):
+            own = [
+                d
+                for d in self.run
+                if isinstance(d, Definition) and self.part(d.file.crate, d.file.path.stem) == part
+            ]
+            lines.append("\n## %s: for `run` definitions %d, lines %d" % (part, *counted(own)))
+            for crate in self.crates:
+                lines += self.table(crate, part)
         lines += [OTHERS, "| crate | for its public contracts | inside |", "|---|---|---|"]
         for crate in self.crates:
             cells = {"believed": [], "public": [], "inside": []}
