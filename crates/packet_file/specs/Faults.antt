@@ -14,7 +14,7 @@ use Rattle.packet_file.specs.declared.fault.FileFault.TheVariants.{BadVersion, B
 use Rattle.packet_file.specs.declared.fault.FileFault.TheVariants.{BadReserved, Field, ShortPacket}
 use Rattle.packet_file.specs.declared.fault.FileFault.TheVariants.{NoSuchBlock, NoSuchSymbol}
 use Rattle.packet_file.specs.declared.fault.FileFault.TheVariants.{TooLarge, TooManyBlocks}
-use Rattle.packet_file.specs.declared.fault.FileFault.TheVariants.{TooManyPackets, ReadFault}
+use Rattle.packet_file.specs.declared.fault.FileFault.TheVariants.{TooManyPackets}
 
 -- no codec has the number
 abbrev pub IsNoCodec : ℕ → Type 0
@@ -48,11 +48,7 @@ HasHeaderFault bytes BadReserved = (length bytes ≡ 26) × (codec : Codec) × (
 HasHeaderFault bytes (Field fault) = HasFieldFault bytes fault
 HasHeaderFault bytes (TooLarge limit) = HasSizeFault bytes (TooLarge limit)
 HasHeaderFault bytes TooManyBlocks = HasSizeFault bytes TooManyBlocks
-HasHeaderFault bytes (ShortPacket index have) = ⊥
-HasHeaderFault bytes (NoSuchBlock index sbn) = ⊥
-HasHeaderFault bytes (NoSuchSymbol index esi) = ⊥
-HasHeaderFault bytes TooManyPackets = ⊥
-HasHeaderFault bytes ReadFault = ⊥
+HasHeaderFault bytes _ = ⊥
 
 -- the bytes are those of a packet, with this identifier
 abbrev pub IsPiece : HeaderFields → List ℕ → PacketId → Type 0
@@ -71,12 +67,4 @@ HasPacketFault h index limit bytes (NoSuchBlock i sbn) = (index < limit) × (i �
 HasPacketFault h index limit bytes (NoSuchSymbol i esi) = (index < limit) × (i ≡ index)
     × (id : PacketId) × IsPiece h bytes id × (id.sbn < length (source_counts h)) × (id.esi ≡ esi)
     × (block_symbols h id.sbn ≤ esi)
-HasPacketFault h index limit bytes (ShortHeader have) = ⊥
-HasPacketFault h index limit bytes BadMagic = ⊥
-HasPacketFault h index limit bytes (BadVersion version) = ⊥
-HasPacketFault h index limit bytes (BadCodec number) = ⊥
-HasPacketFault h index limit bytes BadReserved = ⊥
-HasPacketFault h index limit bytes (Field fault) = ⊥
-HasPacketFault h index limit bytes (TooLarge limit_passed) = ⊥
-HasPacketFault h index limit bytes TooManyBlocks = ⊥
-HasPacketFault h index limit bytes ReadFault = ⊥
+HasPacketFault h index limit bytes _ = ⊥

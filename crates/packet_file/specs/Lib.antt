@@ -3,4 +3,5 @@ pub mod Packets
 pub mod Faults
 pub mod Reading
 pub mod Taking
+pub mod OneReading
 pub mod Laws

@@ -9,6 +9,8 @@ ghost use Rattle.packet_file.specs.Header.{IsHeader, header_bytes};
 ghost use Rattle.packet_file.specs.Faults.{HasHeaderFault};
 ghost use Rattle.packet_file.specs.Reading.{FailsAtHeader, TakesFewer};
 ghost use Rattle.packet_file.specs.Taking.{TakesAtMost};
+ghost use Rattle.fec_base.specs.Outside.{stream};
+ghost use Rattle.packet_file.specs.OneReading.{LacksHeader, stop_by};
 
 use crate::{FileFault, Header};
 use fec_base::{ReadFailed, Sink, Source, WriteFailed, read_full, write_all};
@@ -27,6 +29,9 @@ const VERSION: u8 = 1;
 pub fn read_header<S: Source>(src: &mut S) -> Result<Header, FileFault>
     ensures bytes { IfOk result (λ h. Consumes (S.left src.old) (S.left src.new) (header_bytes h)) }
     ensures header { IfOk result IsHeader }
+    ensures lacks { IfErr result (λ fault. LacksHeader
+        (stream (S.left src.old) (S.faults src.old)) (stream (S.left src.new) (S.faults src.new))
+        (stop_by fault)) }
     ensures fault { IfErr result (λ fault. fault ≢ FileFault.ReadFault
         → FailsAtHeader fault (S.left src.old) (S.left src.new)) }
     ensures read { result ≡ Err FileFault.ReadFault → Rose (S.faults src.old) (S.faults src.new) }

@@ -8,6 +8,9 @@ ghost use Rattle.packet_file.specs.Packets.{IsIdOf, packet_bytes};
 ghost use Rattle.packet_file.specs.Faults.{HasPacketFault};
 ghost use Rattle.packet_file.specs.Reading.{FailsAtPacket, TakesFewer};
 ghost use Rattle.packet_file.specs.Taking.{TakesAtMost};
+ghost use Rattle.fec_base.specs.Outside.{stream};
+ghost use Rattle.packet_file.specs.OneReading.{StopsBefore, TakesPacketOf, stop_by};
+ghost use Rattle.packet_file.specs.OneReading.Stop.{End};
 
 use crate::{FileFault, Header};
 use fec_base::{ReadFailed, Sink, Source, WriteFailed, read_full, write_all};
@@ -30,6 +33,15 @@ pub fn next_packet<S: Source>(
 ) -> Result<Option<PacketId>, FileFault>
     requires buf { length buf.old ≡ 4 + h.now.oti.symbol }
     requires index { index ≤ limit }
+    ensures takes { IfOk result (λ found. IfSome found (λ id. TakesPacketOf h.now limit index
+        (stream (S.left src.old) (S.faults src.old)) (stream (S.left src.new) (S.faults src.new))
+        (id, drop 4 buf.new))) }
+    ensures ended { result ≡ Ok None → StopsBefore h.now limit index
+        (stream (S.left src.old) (S.faults src.old)) (stream (S.left src.new) (S.faults src.new))
+        End }
+    ensures stops { IfErr result (λ fault. StopsBefore h.now limit index
+        (stream (S.left src.old) (S.faults src.old)) (stream (S.left src.new) (S.faults src.new))
+        (stop_by fault)) }
     ensures packet { IfOk result
         (λ found. IfSome found
         (λ id. Consumes (S.left src.old) (S.left src.new) (packet_bytes id (drop 4 buf.new)))) }
