@@ -1,75 +1,20 @@
 -- How a pass ends at a packet, and behind a list of packets.
-use Rattle.std.proofs.Common.{◌≡◌, ◌≢◌, ◌<◌, ◌≤◌, ◌+◌, ◌⊎◌, inl, inr, ℕ, List, [], ◌∷◌, ◌++◌}
-use Rattle.std.proofs.Common.{length, take, Option, refl, sym, subst, ap, ◌∙◌, arith, append_assoc}
-use Rattle.std.proofs.Common.{append-nil}
-use Rattle.std.specs.Io.KnownBytes.{Appends, Consumes}
-use Rattle.std.proofs.KnownBytes.{Appends-nil, Appends-trans, Consumes-nil, Consumes-trans}
-use Rattle.std.proofs.lemmas.List.Elements.{All-append, All-cons, All-nil}
-use Rattle.std.proofs.lemmas.List.Concat.{flat_map-append}
+use Rattle.std.proofs.Common.{◌≡◌, ◌<◌, ◌≤◌, ◌+◌, ℕ, List, [], ◌∷◌, ◌++◌, length, take, Option, refl}
+use Rattle.std.proofs.Common.{sym, subst, ap, ◌∙◌, arith, append_assoc, append-nil}
+use Rattle.std.specs.Io.KnownBytes.{Appends}
+use Rattle.std.proofs.KnownBytes.{Appends-nil, Appends-trans}
 use Rattle.fec_base.specs.Causes.{Rose}
+use Rattle.fec_base.specs.Outside.{Stream}
 use Rattle.packet_file.specs.Header.{HeaderFields}
-use Rattle.packet_file.specs.Packets.{IsPacketOf, Packet, packet_bytes, spelled}
-use Rattle.packet_file.specs.Reading.{FailsAtPacket, TakesFewer}
-use Rattle.packet_file.specs.declared.fault.FileFault.{FileFault}
-use Rattle.packet_file.specs.declared.fault.FileFault.TheVariants.{ShortHeader, BadMagic}
-use Rattle.packet_file.specs.declared.fault.FileFault.TheVariants.{BadVersion, BadCodec}
-use Rattle.packet_file.specs.declared.fault.FileFault.TheVariants.{BadReserved, Field, ShortPacket}
-use Rattle.packet_file.specs.declared.fault.FileFault.TheVariants.{NoSuchBlock, NoSuchSymbol}
-use Rattle.packet_file.specs.declared.fault.FileFault.TheVariants.{TooLarge, TooManyBlocks}
-use Rattle.packet_file.specs.declared.fault.FileFault.TheVariants.{TooManyPackets, ReadFault}
-use Rattle.packet_pass.specs.Pass.{IsBad, Stands, text_of, texts, texts_from}
-use Rattle.packet_pass.specs.Writing.{EndsAtPacket, EndsEarly, PassesOne}
+use Rattle.packet_file.specs.Packets.{Packet}
+use Rattle.packet_file.specs.OneReading.{Stop, StopsBefore, stop_by}
+use Rattle.packet_file.specs.OneReading.Stop.{Enough}
+use Rattle.packet_file.proofs.Readings.{reads_more, reads_none, reads_stop}
+use Rattle.packet_pass.specs.Pass.{CutsText, text_of, texts, texts_from}
+use Rattle.packet_pass.specs.Writing.{EndsAtPacket, EndsEarly, PassesOne, PassesPackets}
 use Rattle.packet_pass.specs.declared.kind.Pass.{Pass}
 use Rattle.packet_pass.specs.declared.kind.PassRefusal.{PassRefusal}
 use Rattle.packet_pass.specs.declared.kind.PassRefusal.TheVariants.{Memory, File, Output}
-
--- the input failed, or the bytes have a fault
-pub read_or_not : (fault : FileFault) → (fault ≡ ReadFault) ⊎ (fault ≢ ReadFault)
-read_or_not ReadFault = inl refl
-read_or_not (ShortHeader have) = inr (λ same. absurd (cc same))
-read_or_not BadMagic = inr (λ same. absurd (cc same))
-read_or_not (BadVersion version) = inr (λ same. absurd (cc same))
-read_or_not (BadCodec number) = inr (λ same. absurd (cc same))
-read_or_not BadReserved = inr (λ same. absurd (cc same))
-read_or_not (Field field) = inr (λ same. absurd (cc same))
-read_or_not (ShortPacket index have) = inr (λ same. absurd (cc same))
-read_or_not (NoSuchBlock index sbn) = inr (λ same. absurd (cc same))
-read_or_not (NoSuchSymbol index esi) = inr (λ same. absurd (cc same))
-read_or_not (TooLarge limit) = inr (λ same. absurd (cc same))
-read_or_not TooManyBlocks = inr (λ same. absurd (cc same))
-read_or_not TooManyPackets = inr (λ same. absurd (cc same))
-
--- a fault at a packet, before which the output stays: fewer bytes than a packet has, or a piece
--- that is none
-module _ (pass : Pass) (most : ℕ) (h : HeaderFields) (index : ℕ) (left now held : Option (List ℕ))
-    (faults faults_now sink_faults : ℕ) (fault : FileFault)
-    (cut : fault ≡ ReadFault → TakesFewer left now (4 + h.oti.symbol)) (rose : fault ≡ ReadFault
-    → Rose faults faults_now) (fails : fault ≢ ReadFault
-    → FailsAtPacket fault h index most left now) where
-  ends_by : (fault ≡ ReadFault) ⊎ (fault ≢ ReadFault) → EndsAtPacket pass most h index left now held
-      held faults faults_now sink_faults sink_faults (File fault)
-  ends_by (inl is) = let (piece, taken, short) = cut is in
-      (piece, taken, refl, λ same. (short, rose same), λ apart. absurd (apart is))
-  ends_by (inr apart) = let (piece, taken, bad, ended) = fails apart in
-      (piece, taken, refl, λ same. absurd (apart same), λ other. (bad, ended))
-
-  pub ends_at_fault : EndsAtPacket pass most h index left now held held faults faults_now
-      sink_faults sink_faults (File fault)
-  ends_at_fault = ends_by (read_or_not fault)
-
--- a part behind two others, the second of which had nothing behind it
-behind : (a b c : List ℕ) → (a ++ (b ++ [])) ++ c ≡ a ++ (b ++ c)
-behind a b c = append_assoc a (b ++ []) c ∙ ap (λ l. a ++ (l ++ c)) (append-nil b)
-
--- a part that became one with what stood before it
-joined : (a b c whole : List ℕ) → whole ≡ b ++ c → a ++ (b ++ c) ≡ a ++ (whole ++ [])
-joined a b c whole is = ap (λ l. a ++ l) (sym is ∙ sym (append-nil whole))
-
--- the bytes of one packet more
-spelled_more : (packets : List Packet) (p : Packet) → spelled (packets ++ p ∷ []) ≡ spelled packets
-    ++ packet_bytes p.0 p.1
-spelled_more packets p = flat_map-append (λ (a : Packet). packet_bytes a.0 a.1) packets (p ∷ [])
-    ∙ ap (λ l. spelled packets ++ l) (append-nil (packet_bytes p.0 p.1))
 
 -- the texts of one packet more
 texts_last : (pass : Pass) (first : ℕ) (packets : List Packet) (p : Packet)
@@ -91,95 +36,66 @@ texts_more pass packets p =
     let place : 0 + length packets ≡ length packets = omega arith in
     texts_last pass 0 packets p ∙ ap (λ (n : ℕ). texts pass packets ++ text_of pass n p) place
 
--- nothing was taken yet
-pub stands_none : (pass : Pass) (h : HeaderFields) (left held : Option (List ℕ))
-    → Stands pass h [] [] left left held held [] [] []
-stands_none pass h left held = record {
-  each = All-nil (IsPacketOf h);
-  taken = Consumes-nil left;
-  written = Appends-nil held;
-}
-
-module _ (pass : Pass) (h : HeaderFields) (opened head : List ℕ)
-    (left mid now held held_mid held_now : Option (List ℕ)) where
-  -- whole packets, and then a piece of which a part was written
-  pub stands_behind : (packets : List Packet) (piece part : List ℕ)
-      → Stands pass h opened head left mid held held_mid packets [] [] → Consumes mid now piece
-      → Appends held_mid held_now part
-      → Stands pass h opened head left now held held_now packets piece part
-  stands_behind packets piece part s taken written = record {
-    each = s.each;
-    taken = subst (Consumes left now) (behind opened (spelled packets) piece)
-        (Consumes-trans left mid now (opened ++ (spelled packets ++ [])) piece s.taken taken);
-    written = subst (Appends held held_now) (behind head (texts pass packets) part)
-        (Appends-trans held held_mid held_now (head ++ (texts pass packets ++ [])) part s.written
-        written);
-  }
-
-  -- one packet more
-  pub stands_more : (packets : List Packet) (index : ℕ) (p : Packet)
-      → Stands pass h opened head left mid held held_mid packets [] [] → length packets ≡ index
-      → PassesOne pass h index mid now held_mid held_now p
-      → Stands pass h opened head left now held held_now (packets ++ p ∷ []) [] []
-  stands_more packets index p s counted one =
-      let text : List ℕ = text_of pass (length packets) p in
-      let written : Appends held_mid held_now text =
-      subst (λ (n : ℕ). Appends held_mid held_now (text_of pass n p)) (sym counted)
-      one.written in
-      let next = stands_behind packets (packet_bytes p.0 p.1) text s one.taken written in record {
-        each = All-append (IsPacketOf h) packets (p ∷ []) s.each
-            (All-cons (IsPacketOf h) p [] one.packet (All-nil (IsPacketOf h)));
-        taken = subst (Consumes left now) (joined opened (spelled packets) (packet_bytes p.0 p.1)
-            (spelled (packets ++ p ∷ [])) (spelled_more packets p)) next.taken;
-        written = subst (Appends held held_now) (joined head (texts pass packets) text
-            (texts pass (packets ++ p ∷ [])) (texts_more pass packets p)) next.written;
-      }
-
-  -- packets behind a header
-  pub stands_after : (packets : List Packet) (piece part : List ℕ) → Consumes left mid opened
-      → Appends held held_mid head → Stands pass h [] [] mid now held_mid held_now packets piece
-      part
-      → Stands pass h opened head left now held held_now packets piece part
-  stands_after packets piece part taken written s = record {
-    each = s.each;
-    taken = Consumes-trans left mid now opened (spelled packets ++ piece) taken s.taken;
-    written = Appends-trans held held_mid held_now head (texts pass packets ++ part) written
-        s.written;
-  }
-
 -- a count that rose after it hadn't fallen
 pub rose_since : (before mid now : ℕ) → before ≤ mid → Rose mid now → Rose before now
 rose_since before mid now later rose = omega (arith, later, rose)
 
--- the pass ended at the packet behind a list of packets
-module _ (pass : Pass) (most : ℕ) (h : HeaderFields) (left mid now held held_mid held_now : Option
-    (List ℕ)) (faults faults_mid faults_now sink sink_mid sink_now : ℕ)
-    (packets : List Packet) (index : ℕ) (s : Stands pass h [] [] left mid held held_mid packets []
-    []) (counted : length packets ≡ index) (few : index ≤ most) (later : faults ≤ faults_mid)
-    (sink_later : sink ≤ sink_mid) where
-  pub ends_behind : (refusal : PassRefusal) → EndsAtPacket pass most h index mid now held_mid
-      held_now faults_mid faults_now sink_mid sink_now refusal
-      → EndsEarly pass most h [] [] left now held held_now faults faults_now sink sink_now refusal
-  ends_behind Memory ends = absurd ends
-  ends_behind (File fault) (piece, taken, same, read, bad) = (
-    packets,
-    piece,
-    stands_behind pass h [] [] left mid now held held_mid held_now packets piece [] s taken
-        (subst (λ x. Appends held_mid x []) (sym same) (Appends-nil held_mid)),
-    omega (arith, counted, few),
-    λ is. ((read is).0, rose_since faults faults_mid faults_now later (read is).1),
-    λ apart. subst (λ i. IsBad most h now i piece fault) (sym counted) (bad apart),
-  )
-  ends_behind Output (p, n, one, inside, rose) = (
-    packets,
-    p,
-    n,
-    stands_behind pass h [] [] left mid now held held_mid held_now packets (packet_bytes p.0 p.1)
-        (take n (text_of pass (length packets) p)) s one.taken
-        (subst (λ (i : ℕ). Appends held_mid held_now (take n (text_of pass i p))) (sym counted)
-        one.written),
-    one.packet,
-    subst (λ (i : ℕ). n < length (text_of pass i p)) (sym counted) one.some_left,
-    omega (arith, counted, inside),
-    rose_since sink sink_mid sink_now sink_later rose,
-  )
+-- nothing was passed yet
+pub passes_none : (pass : Pass) (most : ℕ) (h : HeaderFields) (input output : Stream)
+    → PassesPackets pass most h input input output output [] Enough
+passes_none pass most h input output = record {
+  reads = reads_none h most input;
+  written = Appends-nil output.bytes;
+}
+
+module _ (pass : Pass) (most : ℕ) (h : HeaderFields) (input mid now output out_mid out_now : Stream)
+    (packets : List Packet) (index : ℕ)
+    (s : PassesPackets pass most h input mid output out_mid packets Enough)
+    (counted : length packets ≡ index) where
+  -- one packet more
+  pub passes_more : (p : Packet) → PassesOne pass most h index mid now out_mid out_now p
+      → PassesPackets pass most h input now output out_now (packets ++ p ∷ []) Enough
+  passes_more p one =
+      let text : List ℕ = text_of pass (length packets) p in
+      let written : Appends out_mid.bytes out_now.bytes text =
+      subst (λ (n : ℕ). Appends out_mid.bytes out_now.bytes (text_of pass n p)) (sym counted)
+      one.written in
+      record {
+        reads = reads_more h most input mid now packets index p s.reads counted one.taken;
+        written = subst (Appends output.bytes out_now.bytes) (sym (texts_more pass packets p))
+            (Appends-trans output.bytes out_mid.bytes out_now.bytes (texts pass packets) text
+            s.written written);
+      }
+
+  module _ (later : input.faults ≤ mid.faults) where
+    -- the reading stops, and the output stays
+    pub passes_stop : (stop : Stop) → StopsBefore h most index mid now stop
+        → out_now.bytes ≡ out_mid.bytes
+        → PassesPackets pass most h input now output out_now packets stop
+    passes_stop stop stops same = record {
+      reads = reads_stop h most input mid now packets index stop s.reads counted later stops;
+      written = subst (λ x. Appends output.bytes x (texts pass packets)) (sym same) s.written;
+    }
+
+    -- the pass ended at the packet behind a list of packets
+    pub ends_behind : output.faults ≤ out_mid.faults → (refusal : PassRefusal)
+        → EndsAtPacket pass most h index mid now out_mid out_now refusal
+        → EndsEarly pass most h input now output out_now refusal
+    ends_behind sink_later Memory ends = absurd ends
+    ends_behind sink_later (File fault) (same, stops) =
+        (packets, passes_stop (stop_by fault) stops same)
+    ends_behind sink_later Output (p, taken, (n, some_left, written), rose) =
+        let cut : Appends out_mid.bytes out_now.bytes (take n (text_of pass (length packets) p)) =
+        subst (λ (i : ℕ). Appends out_mid.bytes out_now.bytes (take n (text_of pass i p)))
+        (sym counted) written in (
+          packets,
+          p,
+          reads_more h most input mid now packets index p s.reads counted taken,
+          (
+            n,
+            subst (λ (i : ℕ). n < length (text_of pass i p)) (sym counted) some_left,
+            Appends-trans output.bytes out_mid.bytes out_now.bytes (texts pass packets)
+                (take n (text_of pass (length packets) p)) s.written cut,
+            rose_since output.faults out_mid.faults out_now.faults sink_later rose,
+          ),
+        )

@@ -1,81 +1,80 @@
 -- How a pass ends in the header, and behind it.
-use Rattle.std.proofs.Common.{◌≡◌, ◌≢◌, ◌≤◌, inl, inr, ℕ, List, [], length, take, Option, ap, ◌∙◌}
+use Rattle.std.proofs.Common.{◌≡◌, ◌<◌, ◌≤◌, ◌++◌, inr, ℕ, List, [], ◌∷◌, length, take, Option, ap, ◌∙◌}
 use Rattle.std.specs.Io.KnownBytes.{Appends, Consumes}
-use Rattle.std.proofs.KnownBytes.{Keeps-refl}
-use Rattle.fec_base.specs.Causes.{Rose}
+use Rattle.std.proofs.KnownBytes.{Appends-trans}
+use Rattle.fec_base.specs.Outside.{Stream}
 use Rattle.packet_file.specs.Header.{HeaderFields, IsHeader, header_bytes}
-use Rattle.packet_file.specs.Packets.{packet_bytes}
-use Rattle.packet_file.specs.Reading.{FailsAtHeader, TakesFewer}
-use Rattle.packet_file.specs.declared.fault.FileFault.{FileFault}
-use Rattle.packet_file.specs.declared.fault.FileFault.TheVariants.{ReadFault}
+use Rattle.packet_file.specs.Packets.{Packet}
+use Rattle.packet_file.specs.OneReading.{Reads, ReadsFile, Stop, stop_by}
+use Rattle.packet_file.specs.OneReading.Stop.{Enough}
+use Rattle.packet_file.proofs.Readings.{reads_behind, reads_none}
 use Rattle.loss_patterns.specs.declared.kind.LossKind.{LossKind}
 use Rattle.packet_pass.specs.Thinned.{kept_of}
-use Rattle.packet_pass.specs.Pass.{EndsWhole, PassEnds, head_of, loss_in, seed_in, text_of}
-use Rattle.packet_pass.specs.Writing.{EndsEarly}
+use Rattle.packet_pass.specs.Pass.{PassEnds, head_of, loss_in, seed_in, text_of, texts}
+use Rattle.packet_pass.specs.Writing.{EndsEarly, PassesPackets}
 use Rattle.packet_pass.specs.declared.kind.Pass.{Pass}
 use Rattle.packet_pass.specs.declared.kind.PassRefusal.{PassRefusal}
 use Rattle.packet_pass.specs.declared.kind.PassRefusal.TheVariants.{Memory, File, Output}
-use Rattle.packet_pass.proofs.Ending.{rose_since, stands_after}
+use Rattle.packet_pass.proofs.Ending.{rose_since}
 
--- there is no header, and nothing is written
-pub ends_in_header : (pass : Pass) (most : ℕ) (left now held : Option (List ℕ))
-    (faults faults_now sink : ℕ) (fault : FileFault)
-    → (fault ≡ ReadFault → TakesFewer left now 26) → (fault ≡ ReadFault → Rose faults faults_now)
-    → (fault ≢ ReadFault → FailsAtHeader fault left now)
-    → PassEnds pass most left now held held faults faults_now sink sink (File fault)
-ends_in_header pass most left now held faults faults_now sink fault cut rose fails =
-    inl (Keeps-refl held, (λ is. (cut is, rose is), fails))
+-- what is read behind a header is read of the file
+pub file_read : (most : ℕ) (h : HeaderFields) (input mid now : Stream) (packets : List Packet)
+    (stop : Stop) → IsHeader h → Consumes input.bytes mid.bytes (header_bytes h)
+    → input.faults ≤ mid.faults → Reads h [] most mid now packets stop
+    → ReadsFile most input now h packets stop
+file_read most h input mid now packets stop header taken later r = record {
+  header = header;
+  reads = reads_behind h most (header_bytes h) input mid now packets stop taken later r;
+}
+
+-- a header was read, and nothing behind it
+pub header_read : (most : ℕ) (h : HeaderFields) (input mid : Stream) → IsHeader h
+    → Consumes input.bytes mid.bytes (header_bytes h) → input.faults ≤ mid.faults
+    → ReadsFile most input mid h [] Enough
+header_read most h input mid header taken later =
+    file_read most h input mid mid [] Enough header taken later (reads_none h most mid)
 
 -- what happens behind a header happens to the file
-module _ (pass : Pass) (most : ℕ) (h : HeaderFields) (left mid now held held_mid held_now : Option
-    (List ℕ)) (header : IsHeader h) (taken : Consumes left mid (header_bytes h))
-    (written : Appends held held_mid (head_of pass h)) where
-  pub ends_whole : (count : ℕ) → EndsWhole pass most h [] [] mid now held_mid held_now count
-      → EndsWhole pass most h (header_bytes h) (head_of pass h) left now held held_now count
-  ends_whole count (packets, s, ended, counted, few) = (
-    packets,
-    stands_after pass h (header_bytes h) (head_of pass h) left mid now held held_mid
-        held_now packets [] [] taken written s,
-    ended,
-    counted,
-    few,
-  )
+module _ (pass : Pass) (most : ℕ) (h : HeaderFields) (input mid now output out_mid out_now : Stream)
+    (header : IsHeader h) (taken : Consumes input.bytes mid.bytes (header_bytes h))
+    (written : Appends output.bytes out_mid.bytes (head_of pass h))
+    (later : input.faults ≤ mid.faults) (sink_later : output.faults ≤ out_mid.faults) where
+  pub written_behind : (packets : List Packet) (stop : Stop)
+      → PassesPackets pass most h mid now out_mid out_now packets stop
+      → Appends output.bytes out_now.bytes (head_of pass h ++ texts pass packets)
+  written_behind packets stop s = Appends-trans output.bytes out_mid.bytes out_now.bytes
+      (head_of pass h) (texts pass packets) written s.written
 
-  module _ (faults faults_mid faults_now sink sink_mid sink_now : ℕ) (later : faults ≤ faults_mid)
-      (sink_later : sink ≤ sink_mid) where
-    pub ends_early : (refusal : PassRefusal) → EndsEarly pass most h [] [] mid now held_mid held_now
-        faults_mid faults_now sink_mid sink_now refusal
-        → PassEnds pass most left now held held_now faults faults_now sink sink_now refusal
-    ends_early Memory ends = absurd ends
-    ends_early (File fault) (packets, piece, s, few, read, bad) = inr (
-      h,
-      header,
+  pub read_behind : (packets : List Packet) (stop : Stop)
+      → PassesPackets pass most h mid now out_mid out_now packets stop
+      → ReadsFile most input now h packets stop
+  read_behind packets stop s = file_read most h input mid now packets stop header taken later s.reads
+
+  pub ends_early : (refusal : PassRefusal)
+      → EndsEarly pass most h mid now out_mid out_now refusal
+      → PassEnds pass most input now output out_now refusal
+  ends_early Memory ends = absurd ends
+  ends_early (File fault) (packets, s) = inr (
+    h,
+    packets,
+    read_behind packets (stop_by fault) s,
+    written_behind packets (stop_by fault) s,
+  )
+  ends_early Output (before, last, read, (n, some_left, cut, rose)) = (
+    h,
+    inr (
+      before,
+      last,
+      file_read most h input mid now (before ++ last ∷ []) Enough header taken later read,
       (
-        packets,
-        piece,
-        stands_after pass h (header_bytes h) (head_of pass h) left mid now held held_mid held_now
-            packets piece [] taken written s,
-        few,
-        λ is. ((read is).0, rose_since faults faults_mid faults_now later (read is).1),
-        bad,
-      ),
-    )
-    ends_early Output (packets, p, n, s, packet, inside, few, rose) = (
-      h,
-      header,
-      inr (
-        packets,
-        p,
         n,
-        stands_after pass h (header_bytes h) (head_of pass h) left mid now held held_mid held_now
-            packets (packet_bytes p.0 p.1) (take n (text_of pass (length packets) p)) taken written
-            s,
-        packet,
-        inside,
-        few,
-        rose_since sink sink_mid sink_now sink_later rose,
+        some_left,
+        Appends-trans output.bytes out_mid.bytes out_now.bytes (head_of pass h)
+            (texts pass before ++ take n (text_of pass (length before) last)) written cut,
+        rose_since output.faults out_mid.faults out_now.faults sink_later rose,
       ),
-    )
+    ),
+  )
 
 -- the kept packets of a pass are those that its writer kept
 pub kept_by : (pass p : Pass) (kind : LossKind) (seed done count result : ℕ)

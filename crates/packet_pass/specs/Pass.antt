@@ -1,21 +1,19 @@
--- One pass over a packet file: what was taken of the input and what stands in the output, however
--- it ends. The first pair of bytes is what is left of the input, before and after; the second is
--- what the output holds. A count of faults before and after goes with each.
-use Rattle.std.specs.Prelude.{◌≡◌, ◌≢◌, ◌<◌, ◌≤◌, ◌+◌, ◌⊎◌, ℕ, Bool, List, [], ◌++◌, length, take}
-use Rattle.std.specs.Prelude.{All, Option, if◌then◌else◌}
+-- One pass over a packet file: what was read of the input and what stands in the output, however it
+-- ends.
+use Rattle.std.specs.Prelude.{◌≡◌, ◌<◌, ◌⊎◌, ℕ, Bool, List, [], ◌∷◌, ◌++◌, length, take}
+use Rattle.std.specs.Prelude.{if◌then◌else◌}
 use Rattle.std.specs.List.{enumerate_from, flat_map}
-use Rattle.std.specs.Io.KnownBytes.{Appends, Consumes, IsAtEnd, Keeps}
+use Rattle.std.specs.Io.KnownBytes.{Appends, Keeps}
 use Rattle.fec_base.specs.Bytes.{AppendsFront}
 use Rattle.fec_base.specs.Causes.{Rose}
+use Rattle.fec_base.specs.Outside.{Stream}
 use Rattle.loss_patterns.specs.Keeps.{keeps}
 use Rattle.loss_patterns.specs.declared.kind.LossKind.{LossKind}
 use Rattle.loss_patterns.specs.declared.kind.LossKind.TheVariants as loss
-use Rattle.packet_file.specs.Header.{HeaderFields, IsHeader, header_bytes}
-use Rattle.packet_file.specs.Packets.{IsPacketOf, Packet, packet_bytes, spelled}
-use Rattle.packet_file.specs.Faults.{HasPacketFault}
-use Rattle.packet_file.specs.Reading.{FailsAtHeader, TakesFewer}
-use Rattle.packet_file.specs.declared.fault.FileFault.{FileFault}
-use Rattle.packet_file.specs.declared.fault.FileFault.TheVariants.{ReadFault}
+use Rattle.packet_file.specs.Header.{HeaderFields, header_bytes}
+use Rattle.packet_file.specs.Packets.{Packet, packet_bytes}
+use Rattle.packet_file.specs.OneReading.{LacksHeader, ReadsFile, stop_by}
+use Rattle.packet_file.specs.OneReading.Stop.{End, Enough}
 use Rattle.packet_pass.specs.Lines.{header_line, packet_line}
 use Rattle.packet_pass.specs.Thinned.{kept_of}
 use Rattle.packet_pass.specs.declared.kind.Pass.{Pass}
@@ -57,90 +55,49 @@ texts_from pass first packets =
 abbrev pub texts : Pass → List Packet → List ℕ
 texts pass packets = texts_from pass 0 packets
 
--- behind the bytes `opened`, whole packets of the file were taken and then a piece; behind the text
--- `head`, exactly the texts of these packets were written and then a part
-pub record Stands (pass : Pass) (h : HeaderFields) (opened head : List ℕ)
-    (left left_now held held_now : Option (List ℕ)) (packets : List Packet) (piece part : List ℕ)
-    : Type 0 where
-  pub each : All (IsPacketOf h) packets
-  pub taken : Consumes left left_now (opened ++ (spelled packets ++ piece))
-  pub written : Appends held held_now (head ++ (texts pass packets ++ part))
-
--- the input was read to its end: all its packets, at most `most`
-abbrev pub EndsWhole : Pass → ℕ → HeaderFields → List ℕ → List ℕ
-    → Option (List ℕ) → Option (List ℕ) → Option (List ℕ) → Option (List ℕ) → ℕ → Type 0
-EndsWhole pass most h opened head left left_now held held_now count = (packets : List Packet)
-    × Stands pass h opened head left left_now held held_now packets [] []
-    × IsAtEnd left_now × (length packets ≡ count) × (length packets ≤ most)
-
--- a piece that is no packet, with this fault; it is shorter than a packet only where the input
--- ended
-abbrev pub IsBad : ℕ → HeaderFields → Option (List ℕ) → ℕ → List ℕ → FileFault → Type 0
-IsBad most h left_now index piece fault =
-    HasPacketFault h index most piece fault × (length piece < 4 + h.oti.symbol → IsAtEnd left_now)
-
--- the input failed within a packet, or a piece is no packet: the texts of the packets before it
--- stand in the output
-abbrev pub EndsAtInput : Pass → ℕ → HeaderFields → List ℕ → List ℕ
-    → Option (List ℕ) → Option (List ℕ) → Option (List ℕ) → Option (List ℕ)
-    → ℕ → ℕ → FileFault → Type 0
-EndsAtInput pass most h opened head left left_now held held_now faults faults_now fault =
-    (packets : List Packet) × (piece : List ℕ)
-    × Stands pass h opened head left left_now held held_now packets piece []
-    × (length packets ≤ most)
-    × (fault ≡ ReadFault → (length piece < 4 + h.oti.symbol) × Rose faults faults_now)
-    × (fault ≢ ReadFault → IsBad most h left_now (length packets) piece fault)
-
--- the output failed within the text of a packet, the last that was taken
-abbrev pub EndsAtOutput : Pass → ℕ → HeaderFields → List ℕ → List ℕ
-    → Option (List ℕ) → Option (List ℕ) → Option (List ℕ) → Option (List ℕ) → ℕ → ℕ → Type 0
-EndsAtOutput pass most h opened head left left_now held held_now faults faults_now =
-    (packets : List Packet) × (p : Packet) × (n : ℕ)
-    × Stands pass h opened head left left_now held held_now packets (packet_bytes p.0 p.1)
-    (take n (text_of pass (length packets) p))
-    × IsPacketOf h p × (n < length (text_of pass (length packets) p)) × (length packets < most)
-    × Rose faults faults_now
-
 -- the whole input was a packet file of at most `most` packets, and its text was written
-pub record PassesWhole (pass : Pass) (most : ℕ) (left left_now held held_now : Option (List ℕ))
+pub record PassesWhole (pass : Pass) (most : ℕ) (input input_now output output_now : Stream)
     (passed : Passed) : Type 0 where
   pub header : HeaderFields
-  pub is_header : IsHeader header
-  pub ends : EndsWhole pass most header (header_bytes header) (head_of pass header)
-      left left_now held held_now passed.packets
+  pub packets : List Packet
+  pub reads : ReadsFile most input input_now header packets End
+  pub written : Appends output.bytes output_now.bytes (head_of pass header ++ texts pass packets)
+  pub counted : passed.packets ≡ length packets
   pub kept : passed.kept ≡ kept_of (loss_in pass) (seed_in pass) passed.packets
 
--- the input failed within the header, or it has none, with this fault
-abbrev pub LacksHeader : Option (List ℕ) → Option (List ℕ) → ℕ → ℕ → FileFault → Type 0
-LacksHeader left left_now faults faults_now fault =
-    (fault ≡ ReadFault → TakesFewer left left_now 26 × Rose faults faults_now)
-    × (fault ≢ ReadFault → FailsAtHeader fault left left_now)
-
 -- the output failed within the text of the header, behind which nothing was taken
-abbrev pub CutsHead : Pass → HeaderFields
-    → Option (List ℕ) → Option (List ℕ) → Option (List ℕ) → Option (List ℕ) → ℕ → ℕ → Type 0
-CutsHead pass h left left_now held held_now faults faults_now =
-    Consumes left left_now (header_bytes h) × AppendsFront held held_now (head_of pass h)
-    × Rose faults faults_now
+abbrev pub CutsHead : Pass → ℕ → Stream → Stream → Stream → Stream → HeaderFields → Type 0
+CutsHead pass most input input_now output output_now h =
+    ReadsFile most input input_now h [] Enough
+    × AppendsFront output.bytes output_now.bytes (head_of pass h)
+    × Rose output.faults output_now.faults
 
--- the pass ended before the end of the input: for want of memory before anything was written, in
--- the header, or behind it
-abbrev pub PassEnds : Pass → ℕ
-    → Option (List ℕ) → Option (List ℕ) → Option (List ℕ) → Option (List ℕ)
-    → ℕ → ℕ → ℕ → ℕ → PassRefusal → Type 0
-PassEnds pass most left left_now held held_now faults faults_now sink_faults sink_faults_now
-    Memory =
-    Keeps held held_now
-    × ((h : HeaderFields) × IsHeader h × Consumes left left_now (header_bytes h))
-PassEnds pass most left left_now held held_now faults faults_now sink_faults sink_faults_now
-    (File fault) =
-    (Keeps held held_now × LacksHeader left left_now faults faults_now fault)
-    ⊎ ((h : HeaderFields) × IsHeader h
-    × EndsAtInput pass most h (header_bytes h) (head_of pass h) left left_now held held_now
-    faults faults_now fault)
-PassEnds pass most left left_now held held_now faults faults_now sink_faults sink_faults_now
-    Output =
-    (h : HeaderFields) × IsHeader h
-    × (CutsHead pass h left left_now held held_now sink_faults sink_faults_now
-    ⊎ EndsAtOutput pass most h (header_bytes h) (head_of pass h) left left_now held held_now
-    sink_faults sink_faults_now)
+-- behind `head` the texts of these packets were written, and then the output failed within the text
+-- of the next one
+abbrev pub CutsText : Pass → List ℕ → List Packet → Packet → Stream → Stream → Type 0
+CutsText pass head packets p output output_now = (n : ℕ)
+    × (n < length (text_of pass (length packets) p))
+    × Appends output.bytes output_now.bytes
+    (head ++ (texts pass packets ++ take n (text_of pass (length packets) p)))
+    × Rose output.faults output_now.faults
+
+-- the output failed within the text of a packet, the last that was taken
+abbrev pub CutsPacket : Pass → ℕ → Stream → Stream → Stream → Stream → HeaderFields → Type 0
+CutsPacket pass most input input_now output output_now h = (before : List Packet) × (last : Packet)
+    × ReadsFile most input input_now h (before ++ last ∷ []) Enough
+    × CutsText pass (head_of pass h) before last output output_now
+
+-- the pass ended before the end of the input: for want of memory before anything was written; in
+-- the header; behind it, with the texts of the packets before; or since the output failed
+abbrev pub PassEnds : Pass → ℕ → Stream → Stream → Stream → Stream → PassRefusal → Type 0
+PassEnds pass most input input_now output output_now Memory =
+    Keeps output.bytes output_now.bytes
+    × ((h : HeaderFields) × ReadsFile most input input_now h [] Enough)
+PassEnds pass most input input_now output output_now (File fault) =
+    (Keeps output.bytes output_now.bytes × LacksHeader input input_now (stop_by fault))
+    ⊎ ((h : HeaderFields) × (packets : List Packet)
+    × ReadsFile most input input_now h packets (stop_by fault)
+    × Appends output.bytes output_now.bytes (head_of pass h ++ texts pass packets))
+PassEnds pass most input input_now output output_now Output = (h : HeaderFields)
+    × (CutsHead pass most input input_now output output_now h
+    ⊎ CutsPacket pass most input input_now output output_now h)

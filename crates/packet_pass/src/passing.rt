@@ -1,12 +1,13 @@
 // The pass itself.
-ghost use Rattle.std.specs.Prelude.{◌≡◌, ◌≢◌, ◌+◌, ◌<◌, ◌≤◌, ◌++◌, ◌∷◌, ℕ, List, [], true, false};
-ghost use Rattle.std.specs.Prelude.{length, Ok, Err, IfOk, IfErr};
-ghost use Rattle.std.specs.Io.KnownBytes.{Consumes, IsAtEnd};
-ghost use Rattle.packet_file.specs.Header.{IsHeader};
+ghost use Rattle.std.specs.Prelude.{◌≡◌, ◌+◌, ◌≤◌, List, true, false, length, Ok, IfOk, IfErr};
+ghost use Rattle.fec_base.specs.Outside.{stream};
 ghost use Rattle.packet_file.specs.Packets.{Packet};
-ghost use Rattle.packet_pass.specs.Pass.{EndsWhole, PassEnds, PassesWhole, Stands};
+ghost use Rattle.packet_file.specs.OneReading.{StopsBefore};
+ghost use Rattle.packet_file.specs.OneReading.Stop.{End};
+ghost use Rattle.packet_pass.specs.Pass.{PassEnds, PassesWhole};
 ghost use Rattle.packet_pass.specs.Ranges.{IsPass};
 ghost use Rattle.packet_pass.specs.Writing.{EndsAtPacket, EndsEarly, HasWritten, PassesOne};
+ghost use Rattle.packet_pass.specs.Writing.{PassesPackets};
 
 use crate::writer::{PassWriter, put_head, put_packet};
 use crate::{Pass, PassRefusal, Passed};
@@ -33,10 +34,15 @@ pub fn pass<S: Source, K: Sink>(
     requires pass { IsPass pass }
     requires most { most ≤ 16777216 }
     ensures whole { IfOk result (PassesWhole pass most
-        (S.left input.old) (S.left input.new) (K.held output.old) (K.held output.new)) }
+        (stream (S.left input.old) (S.faults input.old))
+        (stream (S.left input.new) (S.faults input.new))
+        (stream (K.held output.old) (K.faults output.old))
+        (stream (K.held output.new) (K.faults output.new))) }
     ensures ends { IfErr result (PassEnds pass most
-        (S.left input.old) (S.left input.new) (K.held output.old) (K.held output.new)
-        (S.faults input.old) (S.faults input.new) (K.faults output.old) (K.faults output.new)) }
+        (stream (S.left input.old) (S.faults input.old))
+        (stream (S.left input.new) (S.faults input.new))
+        (stream (K.held output.old) (K.faults output.old))
+        (stream (K.held output.new) (K.faults output.new))) }
 {
     let header = read_header(input)?;
     let mut writer = PassWriter::new(alloc, pass)?;
@@ -61,13 +67,20 @@ fn pass_packets<S: Source, K: Sink>(
     requires ready { HasWritten writer.old 0 }
     requires most { most ≤ 16777216 }
     requires piece { length piece.old ≡ 4 + header.now.oti.symbol }
-    ensures whole { IfOk result (EndsWhole writer.old.pass most header.now [] []
-        (S.left input.old) (S.left input.new) (K.held output.old) (K.held output.new)) }
+    ensures whole { IfOk result (λ count. (packets : List Packet)
+        × PassesPackets writer.old.pass most header.now
+        (stream (S.left input.old) (S.faults input.old))
+        (stream (S.left input.new) (S.faults input.new))
+        (stream (K.held output.old) (K.faults output.old))
+        (stream (K.held output.new) (K.faults output.new)) packets End
+        × (length packets ≡ count)) }
     ensures written { IfOk result (λ count. HasWritten writer.new count) }
     ensures pass { writer.new.pass ≡ writer.old.pass }
-    ensures ends { IfErr result (EndsEarly writer.old.pass most header.now [] []
-        (S.left input.old) (S.left input.new) (K.held output.old) (K.held output.new)
-        (S.faults input.old) (S.faults input.new) (K.faults output.old) (K.faults output.new)) }
+    ensures ends { IfErr result (EndsEarly writer.old.pass most header.now
+        (stream (S.left input.old) (S.faults input.old))
+        (stream (S.left input.new) (S.faults input.new))
+        (stream (K.held output.old) (K.faults output.old))
+        (stream (K.held output.new) (K.faults output.new))) }
 {
     for index in 0..most + 1 {
         if !pass_packet(writer, index, most, header, piece, input, output)? {
@@ -93,17 +106,22 @@ fn pass_packet<S: Source, K: Sink>(
     requires most { most ≤ 16777216 }
     requires piece { length piece.old ≡ 4 + header.now.oti.symbol }
     ensures packet { result ≡ Ok true
-        → (p : Packet) × PassesOne writer.old.pass header.now index
-        (S.left input.old) (S.left input.new) (K.held output.old) (K.held output.new) p }
-    ensures within { result ≡ Ok true → index < most }
+        → (p : Packet) × PassesOne writer.old.pass most header.now index
+        (stream (S.left input.old) (S.faults input.old))
+        (stream (S.left input.new) (S.faults input.new))
+        (stream (K.held output.old) (K.faults output.old))
+        (stream (K.held output.new) (K.faults output.new)) p }
     ensures ready { result ≡ Ok true → HasWritten writer.new (index + 1) }
-    ensures end { result ≡ Ok false
-        → Consumes (S.left input.old) (S.left input.new) [] × IsAtEnd (S.left input.new)
+    ensures end { result ≡ Ok false → StopsBefore header.now most index
+        (stream (S.left input.old) (S.faults input.old))
+        (stream (S.left input.new) (S.faults input.new)) End
         × (output.new ≡ output.old) × (writer.new ≡ writer.old) }
     ensures pass { writer.new.pass ≡ writer.old.pass }
     ensures ends { IfErr result (EndsAtPacket writer.old.pass most header.now index
-        (S.left input.old) (S.left input.new) (K.held output.old) (K.held output.new)
-        (S.faults input.old) (S.faults input.new) (K.faults output.old) (K.faults output.new)) }
+        (stream (S.left input.old) (S.faults input.old))
+        (stream (S.left input.new) (S.faults input.new))
+        (stream (K.held output.old) (K.faults output.old))
+        (stream (K.held output.new) (K.faults output.new))) }
     ensures length { length piece.new ≡ length piece.old }
     ensures later { S.faults input.old ≤ S.faults input.new }
     ensures sink_later { K.faults output.old ≤ K.faults output.new }
