@@ -5,3 +5,4 @@ pub mod Reading
 pub mod Taking
 pub mod OneReading
 pub mod Laws
+pub mod FaultLaws

@@ -1,5 +1,7 @@
 // The laws of the packet file.
 ghost use Rattle.packet_file.specs.Laws.{BlocksAreSized, HeaderIsOne, PacketIsOne, PacketIsSpelled};
+ghost use Rattle.packet_file.specs.FaultLaws.{HeaderFaultIsOne, HeaderHasNoFault};
+ghost use Rattle.packet_file.specs.FaultLaws.{PacketFaultIsOne, PacketHasNoFault};
 
 use oti_fields::fields_have_one_spelling;
 
@@ -13,4 +15,15 @@ pub fn headers_and_packets_have_one_spelling()
     ensures blocks { BlocksAreSized }
 {
     fields_have_one_spelling();
+}
+
+/// Bytes have one fault at most, as a header and as a packet: so the first fault is one. The bytes
+/// of a header have none, and those of a packet of the file have none.
+pub fn files_have_one_fault()
+    ensures header { HeaderFaultIsOne }
+    ensures packet { PacketFaultIsOne }
+    ensures header_less { HeaderHasNoFault }
+    ensures packet_less { PacketHasNoFault }
+{
+    headers_and_packets_have_one_spelling();
 }

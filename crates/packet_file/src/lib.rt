@@ -13,5 +13,5 @@ mod packets;
 pub use fault::{FileFault, Limit};
 pub use header::Header;
 pub use header_file::{HEADER_LEN, read_header, write_header};
-pub use laws::headers_and_packets_have_one_spelling;
+pub use laws::{files_have_one_fault, headers_and_packets_have_one_spelling};
 pub use packets::{IDENTIFIER_LEN, next_packet, write_packet};

@@ -1,5 +1,5 @@
 -- How a pass ends at a packet, and behind a list of packets.
-use Rattle.std.proofs.Common.{◌≡◌, ◌<◌, ◌≤◌, ◌+◌, ℕ, List, [], ◌∷◌, ◌++◌, length, take, Option, refl}
+use Rattle.std.proofs.Common.{◌≡◌, ◌<◌, ◌≤◌, ◌+◌, ℕ, List, [], ◌∷◌, ◌++◌, length, take}
 use Rattle.std.proofs.Common.{sym, subst, ap, ◌∙◌, arith, append_assoc, append-nil}
 use Rattle.std.specs.Io.KnownBytes.{Appends}
 use Rattle.std.proofs.KnownBytes.{Appends-nil, Appends-trans}
@@ -10,7 +10,7 @@ use Rattle.packet_file.specs.Packets.{Packet}
 use Rattle.packet_file.specs.OneReading.{Stop, StopsBefore, stop_by}
 use Rattle.packet_file.specs.OneReading.Stop.{Enough}
 use Rattle.packet_file.proofs.Readings.{reads_more, reads_none, reads_stop}
-use Rattle.packet_pass.specs.Pass.{CutsText, text_of, texts, texts_from}
+use Rattle.packet_pass.specs.Pass.{text_of, texts, texts_from}
 use Rattle.packet_pass.specs.Writing.{EndsAtPacket, EndsEarly, PassesOne, PassesPackets}
 use Rattle.packet_pass.specs.declared.kind.Pass.{Pass}
 use Rattle.packet_pass.specs.declared.kind.PassRefusal.{PassRefusal}

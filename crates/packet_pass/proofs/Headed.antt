@@ -1,5 +1,5 @@
 -- How a pass ends in the header, and behind it.
-use Rattle.std.proofs.Common.{◌≡◌, ◌<◌, ◌≤◌, ◌++◌, inr, ℕ, List, [], ◌∷◌, length, take, Option, ap, ◌∙◌}
+use Rattle.std.proofs.Common.{◌≡◌, ◌≤◌, ◌++◌, inr, ℕ, List, [], ◌∷◌, length, take, ap, ◌∙◌}
 use Rattle.std.specs.Io.KnownBytes.{Appends, Consumes}
 use Rattle.std.proofs.KnownBytes.{Appends-trans}
 use Rattle.fec_base.specs.Outside.{Stream}

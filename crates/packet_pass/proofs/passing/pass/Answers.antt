@@ -1,4 +1,4 @@
-use Rattle.std.proofs.Common.{rules, ◌≡◌, ℕ, List, length, Result, Err, IfErr, sym, ◌∙◌, subst}
+use Rattle.std.proofs.Common.{rules, ◌≡◌, List, length, Result, Err, IfErr, sym, ◌∙◌, subst}
 use Rattle.std.specs.Io.KnownBytes.{Appends}
 use Rattle.fec_base.specs.Outside.{stream}
 use Rattle.packet_file.specs.Packets.{Packet}
