@@ -1,14 +1,16 @@
 -- What a `lose` or a `show` does: one pass over a packet file.
 use Rattle.std.specs.Fmt.{decimal}
 use Rattle.std.specs.Io.KnownBytes.{Appends, Consumes, Keeps}
-use Rattle.std.specs.Prelude.{List, Option, [], codes, ℕ, ◌++◌, ◌≡◌, ◌⊎◌}
+use Rattle.std.specs.Prelude.{List, [], codes, ℕ, ◌++◌, ◌≡◌, ◌⊎◌}
 use Rattle.fec_base.specs.Bytes.{AppendsFront}
 use Rattle.fec_base.specs.Causes.{Rose}
-use Rattle.packet_file.specs.Header.{HeaderFields, IsHeader, header_bytes}
+use Rattle.fec_base.specs.Outside.{Stream}
+use Rattle.packet_file.specs.Header.{HeaderFields}
+use Rattle.packet_file.specs.OneReading.{ReadsFile}
+use Rattle.packet_file.specs.OneReading.Stop.{Enough}
 use Rattle.packet_pass.specs.Pass.{PassEnds, PassesWhole}
 use Rattle.packet_pass.specs.declared.kind.Pass.{Pass}
 use Rattle.packet_pass.specs.declared.kind.Pass.TheVariants.{Lose, Show}
-use Rattle.packet_pass.specs.declared.kind.PassRefusal.{PassRefusal}
 use Rattle.packet_pass.specs.declared.kind.Passed.{Passed}
 use Rattle.tool_base.specs.declared.status.Status.{Status}
 use Rattle.tool_commands.specs.Outside.{Streams}
@@ -27,41 +29,30 @@ pass_report (Lose loss seed) passed =
     codes "read " ++ decimal passed.packets ++ numbered (codes " kept ") passed.kept
 pass_report Show passed = []
 
--- the whole input was a packet file of at most `most` packets, and its text was written
-abbrev pub IsPassed : Pass → ℕ → Streams → Streams → Passed → Type 0
-IsPassed pass most before after passed = PassesWhole pass most before.input.bytes
-    after.input.bytes before.output.bytes after.output.bytes passed
-
--- the pass ended before the end of the input, for this cause
-abbrev pub EndsPass : Pass → ℕ → Streams → Streams → PassRefusal → Type 0
-EndsPass pass most before after cause = PassEnds pass most before.input.bytes after.input.bytes
-    before.output.bytes after.output.bytes before.input.faults after.input.faults
-    before.output.faults after.output.faults cause
-
 -- at most a header was taken
-abbrev pub TakesNoPacket : Option (List ℕ) → Option (List ℕ) → Type 0
-TakesNoPacket left left_now = Consumes left left_now []
-    ⊎ ((h : HeaderFields) × IsHeader h × Consumes left left_now (header_bytes h))
+abbrev pub TakesNoPacket : ℕ → Stream → Stream → Type 0
+TakesNoPacket most input input_now = Consumes input.bytes input_now.bytes []
+    ⊎ ((h : HeaderFields) × ReadsFile most input input_now h [] Enough)
 
 -- a pass is refused: memory lacked before a packet was taken or a byte was written, or its input
 -- failed or is no packet file
 abbrev pub RefusesPass : Pass → ℕ → Streams → Streams → Refusal → Type 0
 RefusesPass pass most before after Memory = Keeps before.output.bytes after.output.bytes
-    × TakesNoPacket before.input.bytes after.input.bytes
+    × TakesNoPacket most before.input after.input
 RefusesPass pass most before after (File fault) =
-    EndsPass pass most before after (early.File fault)
+    PassEnds pass most before.input after.input before.output after.output (early.File fault)
 RefusesPass pass most before after (Draws b) = ⊥
 RefusesPass pass most before after Watch = ⊥
 
 -- a pass was cut by its output, and the report says so
 pub record CutsOutput (pass : Pass) (most : ℕ) (before after : Streams) : Type 0 where
-  pub ends : EndsPass pass most before after early.Output
+  pub ends : PassEnds pass most before.input after.input before.output after.output early.Output
   pub told_so : IsTold (codes "fault: write\n") before.report after.report
 
 -- a pass to the end of the input was cut by its report alone
 pub record CutsReport (pass : Pass) (most : ℕ) (before after : Streams) : Type 0 where
   pub passed : Passed
-  pub whole : IsPassed pass most before after passed
+  pub whole : PassesWhole pass most before.input after.input before.output after.output passed
   pub rose : Rose before.report.faults after.report.faults
   pub front : AppendsFront before.report.bytes after.report.bytes (pass_report pass passed)
 
@@ -70,7 +61,8 @@ pub record IsPassRun (pass : Pass) (most : ℕ) (before after : Streams) (ended 
   where
     -- Done: the whole input was taken, the output has grown by the text of its header and of its
     -- packets, and the report by its own
-    pub done : ended ≡ status.Done → (passed : Passed) × IsPassed pass most before after passed
+    pub done : ended ≡ status.Done → (passed : Passed)
+        × PassesWhole pass most before.input after.input before.output after.output passed
         × Appends before.report.bytes after.report.bytes (pass_report pass passed)
     -- WriteFault: the output failed, and nothing was taken behind what it was to take last; or the
     -- report alone failed

@@ -6,9 +6,11 @@ use Rattle.packet_file.specs.Header.{HeaderFields, IsHeader, header_bytes}
 use Rattle.packet_file.specs.Laws.{HeaderIsOne, PacketIsOne}
 use Rattle.packet_file.specs.Packets.{Packet, spelled}
 use Rattle.packet_file.specs.Reading.{FailsAtHeader}
+use Rattle.packet_file.specs.OneReading.{LacksHeader, ReadsFile, Stop, stop_by}
+use Rattle.packet_file.specs.OneReading.Stop.{End, Enough, Failed, Bad}
 use Rattle.packet_file.specs.declared.fault.FileFault.{FileFault}
 use Rattle.packet_file.specs.declared.fault.FileFault.TheVariants.{ReadFault}
-use Rattle.packet_pass.specs.Pass.{EndsAtInput, LacksHeader}
+use Rattle.packet_pass.specs.Pass.{PassEnds, PassesWhole}
 use Rattle.packet_pass.specs.Pass.{head_of, loss_in, seed_in, texts}
 use Rattle.packet_pass.specs.Thinned.{kept_of}
 use Rattle.packet_pass.specs.declared.kind.Pass.{Pass}
@@ -17,7 +19,7 @@ use Rattle.packet_pass.specs.declared.kind.PassRefusal.TheVariants as early
 use Rattle.tool_base.specs.declared.status.Status.{Status}
 use Rattle.tool_base.specs.declared.status.Status.TheVariants as status
 use Rattle.tool_commands.specs.Outside.{Streams}
-use Rattle.tool_commands.specs.PassRun.{CutsOutput, CutsReport, EndsPass, IsPassRun, IsPassed}
+use Rattle.tool_commands.specs.PassRun.{CutsOutput, CutsReport, IsPassRun}
 use Rattle.tool_commands.specs.PassRun.{RefusesPass, pass_report}
 use Rattle.object_file.specs.Received.{IsPacketFile}
 use Rattle.object_file.specs.Refusals.{IsRefused, refusal_status}
@@ -27,35 +29,30 @@ use Rattle.object_file.specs.declared.causes.Refusal.TheVariants.{Draws, File, M
 use Rattle.tool_laws.proofs.NoFault.{header_taken, packet_taken}
 use Rattle.tool_laws.proofs.OneDecoding.{taken_all, taken_of}
 use Rattle.tool_laws.proofs.OneReading.{length_header, reading_one, same_fronts}
-use Rattle.object_file.proofs.Standing.{read_or_other}
 
 module _ (header_one : HeaderIsOne) (packet_one : PacketIsOne) (pass : Pass) (h : HeaderFields)
     (packets : List Packet) (bytes : List ℕ) (most : ℕ) (before after : Streams)
     (file : IsPacketFile h most packets bytes) (known : before.input.bytes ≡ Some bytes)
     (clean : NothingFails before after) where
   -- a packet file isn't refused as a header
-  not_in_header : (fault : FileFault) → LacksHeader before.input.bytes after.input.bytes
-      before.input.faults after.input.faults fault → ⊥
-  not_in_header fault (read, other) = ⊎_elim
-      (λ (is : fault ≡ ReadFault). clean.reads (read is).1)
-      (λ (differs : fault ≢ ReadFault). header_taken header_one h file.header fault
-      (spelled packets) after.input.bytes
+  not_in_header : (stop : Stop) → LacksHeader before.input after.input stop → ⊥
+  not_in_header End lacks = absurd lacks
+  not_in_header Enough lacks = absurd lacks
+  not_in_header Failed lacks = clean.reads lacks.0
+  not_in_header (Bad fault) lacks = header_taken header_one h file.header fault (spelled packets)
+      after.input.bytes
       (subst (λ (l : Option (List ℕ)). FailsAtHeader fault l after.input.bytes) (known
-      ∙ ap (λ (l : List ℕ). Some l) file.bytes_are) (other differs)))
-      (read_or_other fault)
+      ∙ ap (λ (l : List ℕ). Some l) file.bytes_are) lacks)
 
   -- nor at a packet
-  not_behind : (fault : FileFault) (other : HeaderFields) → IsHeader other
-      → EndsAtInput pass most other (header_bytes other) (head_of pass other) before.input.bytes
-      after.input.bytes before.output.bytes after.output.bytes before.input.faults
-      after.input.faults fault → ⊥
-  not_behind fault other header (came, piece, stands, few, read, differs) = ⊎_elim
-      (λ (is : fault ≡ ReadFault). clean.reads (read is).1)
-      (λ (another : fault ≢ ReadFault).
+  not_bad : (fault : FileFault) (other : HeaderFields) (came : List Packet)
+      → ReadsFile most before.input after.input other came (Bad fault) → ⊥
+  not_bad fault other came read =
+      let piece : List ℕ = read.reads.piece in
       let front : List ℕ = header_bytes other ++ (spelled came ++ piece) in
       let (rest, left_is, bytes_are) = taken_of bytes after.input.bytes front
-      (subst (λ (l : Option (List ℕ)). Consumes l after.input.bytes front) known stands.taken)
-      in
+      (subst (λ (l : Option (List ℕ)). Consumes l after.input.bytes front) known
+      read.reads.taken) in
       let taken : bytes ≡ (header_bytes other ++ spelled came) ++ (piece ++ rest) =
       bytes_are ∙ ap (λ (l : List ℕ). l ++ rest)
       (sym (append_assoc (header_bytes other) (spelled came) piece))
@@ -65,31 +62,37 @@ module _ (header_one : HeaderIsOne) (packet_one : PacketIsOne) (pass : Pass) (h 
       ∙ sym (length_header h))
       (sym (append_assoc (header_bytes other) (spelled came) (piece ++ rest)) ∙ sym taken
       ∙ file.bytes_are) in
-      let own : other ≡ h = header_one other h header.bits file.header.bits parts.0 in
+      let own : other ≡ h = header_one other h read.header.bits file.header.bits parts.0 in
       let file_now : IsPacketFile other most packets bytes =
       subst (λ (k : HeaderFields). IsPacketFile k most packets bytes) (sym own) file in
       packet_taken packet_one other most packets bytes file_now fault came (Some (piece ++ rest))
-      after.input.bytes stands.each taken (
+      after.input.bytes read.reads.each taken (
         piece,
         subst (λ (l : Option (List ℕ)). Consumes (Some (piece ++ rest)) l piece) (sym left_is)
             refl,
-        (differs another).0,
-        (differs another).1,
-      ))
-      (read_or_other fault)
+        read.reads.stopped.0,
+        read.reads.stopped.1,
+      )
+
+  not_behind : (fault : FileFault) (other : HeaderFields) (came : List Packet)
+      → ReadsFile most before.input after.input other came (stop_by fault) → ⊥
+  not_behind ReadFault other came read = clean.reads read.reads.stopped.0
+  not_behind fault other came read = not_bad fault other came read
 
   -- only memory may lack
   not_refused : (refusal : Refusal) → RefusesPass pass most before after refusal → refusal ≡ Memory
   not_refused Memory refuses = refl
-  not_refused (File fault) (inl (kept, lacks)) = absurd (not_in_header fault lacks)
-  not_refused (File fault) (inr (other, header, ends)) = absurd (not_behind fault other header ends)
+  not_refused (File fault) (inl (kept, lacks)) = absurd (not_in_header (stop_by fault) lacks)
+  not_refused (File fault) (inr (other, came, read, written)) =
+      absurd (not_behind fault other came read)
   not_refused (Draws b) refuses = absurd refuses
   not_refused Watch refuses = absurd refuses
 
   -- and nothing is cut
-  no_output : EndsPass pass most before after early.Output → ⊥
-  no_output (other, header, inl (taken, front, rose)) = clean.writes rose
-  no_output (other, header, inr (came, p, n, stands, of, within, few, rose)) = clean.writes rose
+  no_output : PassEnds pass most before.input after.input before.output after.output early.Output
+      → ⊥
+  no_output (other, inl (read, front, rose)) = clean.writes rose
+  no_output (other, inr (came, p, read, (n, some_left, cut, rose))) = clean.writes rose
 
   not_cut : CutsOutput pass most before after ⊎ CutsReport pass most before after → ⊥
   not_cut cut = ⊎_elim
@@ -98,39 +101,38 @@ module _ (header_one : HeaderIsOne) (packet_one : PacketIsOne) (pass : Pass) (h 
       cut
 
   -- a pass to the end is one over this header and these packets
-  whole : (passed : Passed) → IsPassed pass most before after passed
+  whole : (passed : Passed)
+      → PassesWhole pass most before.input after.input before.output after.output passed
       → Appends before.report.bytes after.report.bytes (pass_report pass passed)
       → WritesText pass h packets before after
   whole passed w told =
       let other : HeaderFields = w.header in
-      let came : List Packet = w.ends.0 in
-      let stands = w.ends.1 in
-      let front : List ℕ = header_bytes other ++ (spelled came ++ []) in
+      let came : List Packet = w.packets in
+      let stands = w.reads.reads in
+      let front : List ℕ = header_bytes other ++ (spelled came ++ stands.piece) in
       let read : front ≡ bytes = taken_all bytes front after.input.bytes
       (subst (λ (l : Option (List ℕ)). Consumes l after.input.bytes front) known stands.taken)
-      w.ends.2 in
+      stands.stopped.1 in
       let file_now : IsPacketFile other most came bytes = record {
-        header = w.is_header;
+        header = w.reads.header;
         each = stands.each;
-        few = w.ends.4;
+        few = stands.few;
         bytes_are = sym read ∙ ap (λ (l : List ℕ). header_bytes other ++ l)
-            (append-nil (spelled came));
+            (ap (λ (l : List ℕ). spelled came ++ l) stands.stopped.0 ∙ append-nil (spelled came));
       } in
       let (header_is, packets_are) = reading_one header_one packet_one other h most most came
       packets bytes file_now file in
-      let text : head_of pass other ++ (texts pass came ++ []) ≡ head_of pass h ++ texts pass
-      packets =
-      ap (λ (l : List ℕ). head_of pass other ++ l) (append-nil (texts pass came))
-      ∙ ap₂ (λ (k : HeaderFields) (l : List Packet). head_of pass k ++ texts pass l) header_is
+      let text : head_of pass other ++ texts pass came ≡ head_of pass h ++ texts pass packets =
+      ap₂ (λ (k : HeaderFields) (l : List Packet). head_of pass k ++ texts pass l) header_is
       packets_are in
-      let count : passed.packets ≡ length packets = sym w.ends.3 ∙ ap length packets_are in
+      let count : passed.packets ≡ length packets = w.counted ∙ ap length packets_are in
       let kept : passed.kept ≡ kept_of (loss_in pass) (seed_in pass) (length packets) = w.kept
       ∙ ap (λ (n : ℕ). kept_of (loss_in pass) (seed_in pass) n) count in
       let same : passed ≡ counts_of pass packets =
       ap₂ (λ (n k : ℕ). record { packets = n; kept = k }) count kept in
       record {
-        ended = w.ends.2;
-        written = subst (Appends before.output.bytes after.output.bytes) text stands.written;
+        ended = stands.stopped.1;
+        written = subst (Appends before.output.bytes after.output.bytes) text w.written;
         reported = subst (λ (p : Passed). Appends before.report.bytes after.report.bytes
             (pass_report pass p)) same told;
       }
