@@ -27,6 +27,7 @@ use Rattle.gauss.specs.Packed.{width_of}
 use Rattle.gauss.specs.Elimination.{AllPivots, AreValues, IsFirstFree, IsNullFlags, IsStage}
 use Rattle.gauss.specs.Elimination.{IsStageIn, behind, lead_of, product, pivot_row, sum_in}
 use Rattle.gauss.specs.Elimination.{taken_in}
+use Rattle.gauss.specs.Echelon.{IsEliminated}
 use Rattle.gauss.specs.declared.answer.Answer.TheVariants as answer
 use Rattle.gauss.proofs.Words.{part_length, row_room}
 use Rattle.gauss.proofs.Answered.{answer_clash, answer_free, answer_one, values_are_solution}
@@ -247,35 +248,26 @@ module _ (u len r : ℕ) (first words : List ℕ) (sums : List (List ℕ)) (pivo
               (members u (flagged flags)) (members_below u (flagged flags)) c e in omega arith)
               ∙ sym (get_or_past flags c false (rw is.count le))) (cases_lt c u)
 
--- the words and the sums of a system within the limits
-pub packed_from : (u len r : ℕ) (first words : List ℕ) (sums : List (List ℕ))
-    → All (IsSymbol len) sums → length first ≡ length words → length words ≡ r * width_of u
-    → length sums ≡ r → u ≤ 65536 → r ≤ 65536 → 1 ≤ len → len ≤ 65535
-    → IsPacked u len r first sums
-packed_from u len r first words sums symbols same long sums_long few few2 some most = record {
-  row_words = same ∙ long;
-  row_sums = sums_long;
-  symbols = symbols;
-  few_unknowns = few;
-  few_rows = few2;
-  some = some;
-  most = most;
-}
-
--- what the lists that a call saw give, for the system that they came from
-pub finished : (u len r : ℕ) (first words pivots leads : List ℕ) (sums : List (List ℕ))
-    (words_seen pivots_seen leads_seen : List ℕ) (P : System → Type 0) → words_seen ≡ words
-    → pivots_seen ≡ pivots → leads_seen ≡ leads → length first ≡ length words
+-- the rows that an elimination leaves
+pub eliminated_from : (u len r : ℕ) (first words pivots leads : List ℕ) (sums : List (List ℕ))
+    → IsPacked u len r first sums → length words ≡ length first
     → IsStageIn u r u (bits_of (width_of u) first) (bits_of (width_of u) words) pivots leads
-    → ((f : List ℕ) → length f ≡ length words_seen
-    → IsStageIn (length pivots_seen) (length leads_seen) (length pivots_seen)
-    (bits_of (width_of (length pivots_seen)) f) (bits_of (width_of (length pivots_seen))
-    words_seen) pivots_seen leads_seen
-    → P (packed_system (length pivots_seen) len (length leads_seen) f sums))
-    → P (packed_system u len r first sums)
-finished u len r first words pivots leads sums words_seen pivots_seen leads_seen P ws ps ls long st
-    h =
-    subst₂ (λ (n m : ℕ). P (packed_system n len m first sums)) st.pivot_count st.lead_count
-    ((rw (ws, ps, ls) at h) first long
-    (subst₂ (λ (n m : ℕ). IsStageIn n m n (bits_of (width_of n) first)
-    (bits_of (width_of n) words) pivots leads) (sym st.pivot_count) (sym st.lead_count) st))
+    → IsEliminated (packed_system u len r first sums) len words pivots leads sums
+eliminated_from u len r first words pivots leads sums packed long st = record {
+  first = first;
+  before = subst₂ (λ (n m : ℕ). IsPacked n len m first sums) (sym st.pivot_count)
+      (sym st.lead_count) packed;
+  after = subst₂ (λ (n m : ℕ). IsPacked n len m words sums) (sym st.pivot_count)
+      (sym st.lead_count) (record {
+        row_words = long ∙ packed.row_words;
+        row_sums = packed.row_sums;
+        symbols = packed.symbols;
+        few_unknowns = packed.few_unknowns;
+        few_rows = packed.few_rows;
+        some = packed.some;
+        most = packed.most;
+      });
+  system = ap₂ (λ (n m : ℕ). packed_system n len m first sums) st.pivot_count st.lead_count;
+  stage = subst₂ (λ (n m : ℕ). IsStageIn n m n (bits_of (width_of n) first)
+      (bits_of (width_of n) words) pivots leads) (sym st.pivot_count) (sym st.lead_count) st;
+}

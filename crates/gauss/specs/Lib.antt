@@ -4,6 +4,7 @@ pub mod Answer
 pub mod Laws
 pub mod Packed
 pub mod Elimination
+pub mod Echelon
 pub mod Table
 pub mod Groups
 pub mod Reduction

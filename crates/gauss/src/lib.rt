@@ -8,6 +8,7 @@
 mod answer;
 mod clash;
 mod eliminate;
+mod eliminated;
 mod entries;
 mod equations;
 mod laws;

@@ -1,12 +1,12 @@
 // The reduced form of a system, read off from rows in echelon form.
-ghost use Rattle.std.specs.Prelude.{◌≡◌, ◌≤◌, ◌*◌, ℕ, List, All, length, IfOk};
-ghost use Rattle.fec_base.specs.Symbol.{IsSymbol};
-ghost use Rattle.gauss.specs.Packed.{bits_of, packed_system, width_of};
-ghost use Rattle.gauss.specs.Elimination.{IsStageIn};
+ghost use Rattle.std.specs.Prelude.{length, IfOk};
+ghost use Rattle.gauss.specs.Equations.{System};
+ghost use Rattle.gauss.specs.Packed.{IsPacked};
+ghost use Rattle.gauss.specs.Echelon.{IsEliminated};
 ghost use Rattle.gauss.specs.Reductions.{IsReduction};
 
 use crate::clash::any_clashes;
-use crate::eliminate::eliminate;
+use crate::eliminated::after_elimination;
 use crate::masks::null_masks;
 use crate::packed::width_of;
 use crate::values::some_values;
@@ -31,15 +31,15 @@ pub enum Reduction {
 pub fn reduce(alloc: Global, eqs: Equations) -> Result<Reduction, NoMemory>
     ensures { IfOk result (IsReduction eqs) }
 {
-    let Equations {
-        unknowns,
-        rows,
-        len,
-        mut words,
-        sums,
-    } = eqs;
-    let pivots = eliminate(alloc, unknowns, rows, &mut words)?;
-    let reduction = read_form(alloc, &words, &pivots.rows, &pivots.leads, len, &sums)?;
+    let done = after_elimination(alloc, eqs)?;
+    let reduction = read_form(
+        alloc,
+        &done.words,
+        &done.pivots.rows,
+        &done.pivots.leads,
+        done.len,
+        &done.sums,
+    )?;
     Ok(reduction)
 }
 
@@ -53,19 +53,9 @@ fn read_form(
     len: u32,
     sums: &Arena,
 ) -> Result<Reduction, NoMemory>
-    requires pivots { length pivots.now ≤ 65536 }
-    requires leads { length leads.now ≤ 65536 }
-    requires some { 1 ≤ len }
-    requires most { len ≤ 65535 }
-    requires words { length words.now ≡ length leads.now * width_of (length pivots.now) }
-    requires sums { length sums.now ≡ length leads.now }
-    requires symbols { All (IsSymbol len) sums.now }
-    ensures { (first : List ℕ) → length first ≡ length words.now
-        → IsStageIn (length pivots.now) (length leads.now) (length pivots.now)
-        (bits_of (width_of (length pivots.now)) first)
-        (bits_of (width_of (length pivots.now)) words.now) pivots.now leads.now
-        → IfOk result (IsReduction
-        (packed_system (length pivots.now) len (length leads.now) first sums.now)) }
+    requires { IsPacked (length pivots.now) len (length leads.now) words.now sums.now }
+    ensures { (s : System) → IsEliminated s len words.now pivots.now leads.now sums.now
+        → IfOk result (IsReduction s) }
 {
     let width = width_of(pivots.len() as u32);
     let mut sum = vec![in alloc; 0u8; len as usize]?;

@@ -1,26 +1,26 @@
-use Rattle.std.proofs.Common.{◌≡◌, ℕ, List, length, sym, ap, ◌∙◌, subst, arith}
+use Rattle.std.proofs.Common.{◌≡◌, ℕ, List, length, sym, ap, ◌∙◌, subst, subst₂, arith}
 use Rattle.std.proofs.lemmas.List.FromFn.{length-map-range_with_len}
 use Rattle.gauss.specs.Masks.{AreMasks, form_of}
-use Rattle.gauss.specs.Packed.{packed_system}
+use Rattle.gauss.specs.Equations.{System}
 use Rattle.gauss.specs.Reduction.{IsReducedForm}
+use Rattle.gauss.specs.Reductions.{IsReduction}
+use Rattle.gauss.specs.declared.reducing.Reduction.TheVariants as answer
 use Rattle.gauss.proofs.Form.{read_form}
-use Rattle.gauss.proofs.Read.{packed_from, read_clash, symbol_in}
+use Rattle.gauss.proofs.Read.{read_clash, symbol_in}
 use Rattle.gauss.proofs.reducing.read_form.Goals as goal
 
 pub returns-then-any_clashes : goal.returns-then-any_clashes
-returns-then-any_clashes c first long st =
+returns-then-any_clashes c s done =
     let u : ℕ = length c.args.pivots.now in
     let r : ℕ = length c.args.leads.now in
     let n : length c.deref_mut.result.now ≡ c.args.len =
     omega (arith, c.deref_mut.ensures.len, c.in_ok-sum.ensures.len) in
     let w = rw (n, c.width_of-width.ensures) at (c.any_clashes.ensures.some c.if-any_clashes.true)
     in
-    read_clash u c.args.len r first c.args.words.now c.args.sums.now c.args.pivots.now
-    c.args.leads.now
-    (packed_from u c.args.len r first c.args.words.now c.args.sums.now c.requires.symbols long
-    c.requires.words c.requires.sums c.requires.pivots c.requires.leads c.requires.some
-    c.requires.most) st
-    w.0 w.1 w.2 w.3 w.4 w.5
+    subst (λ (v : System). IsReduction v answer.Clash) done.system
+    (read_clash u c.args.len r done.first c.args.words.now c.args.sums.now c.args.pivots.now
+    c.args.leads.now done.before done.stage
+    w.0 w.1 w.2 w.3 w.4 w.5)
 
 pub new-requires : goal.new-requires
 new-requires c =
@@ -31,7 +31,7 @@ new-requires c =
     (length c.args.pivots.now))) masks.masks
 
 pub returns : goal.returns
-returns c first long st =
+returns c s done =
     let u : ℕ = length c.args.pivots.now in
     let r : ℕ = length c.args.leads.now in
     let n : length c.deref_mut.result.now ≡ c.args.len =
@@ -42,11 +42,7 @@ returns c first long st =
     let masks = rw c.width_of-width.ensures at c.in_ok-masks.ensures in
     let sets : ℕ = c.in_ok-masks.masks.sets in
     let bytes : List ℕ = c.in_ok-masks.masks.bytes.items in
-    subst (IsReducedForm (packed_system u c.args.len r first c.args.sums.now))
-    (sym (c.new.ensures ∙ ap (λ (v : List (List ℕ)). form_of v sets bytes) w.4))
-    (read_form u c.args.len r first c.args.words.now c.args.sums.now c.args.pivots.now
-    c.args.leads.now
-    (packed_from u c.args.len r first c.args.words.now c.args.sums.now c.requires.symbols long
-    c.requires.words c.requires.sums c.requires.pivots c.requires.leads c.requires.some
-    c.requires.most)
-    c.requires.words st zero w.0 w.1 w.2 w.3 sets bytes masks)
+    subst₂ IsReducedForm done.system (sym (c.new.ensures ∙ ap (λ (v : List (List ℕ)). form_of v sets bytes) w.4))
+    (read_form u c.args.len r done.first c.args.words.now c.args.sums.now c.args.pivots.now
+    c.args.leads.now done.before
+    c.requires.row_words done.stage zero w.0 w.1 w.2 w.3 sets bytes masks)
