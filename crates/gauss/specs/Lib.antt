@@ -5,6 +5,7 @@ pub mod Laws
 pub mod Packed
 pub mod Elimination
 pub mod Echelon
+pub mod Tiles
 pub mod Table
 pub mod Groups
 pub mod Reduction

@@ -7,6 +7,7 @@
 
 mod answer;
 mod clash;
+mod echelon;
 mod eliminate;
 mod eliminated;
 mod entries;

@@ -3,9 +3,10 @@
 ghost use Rattle.std.specs.Prelude.{◌≡◌, ◌≢◌, ◌≤◌, ◌<◌, ◌+◌, ◌*◌, ◌/◌, ◌==◌, ◌||◌, ℕ, All, length};
 ghost use Rattle.std.specs.Prelude.{slice_index_or, IfOk, false};
 ghost use Rattle.sparse_rows.specs.Closure.{members};
-ghost use Rattle.gauss.specs.Packed.{bits_of};
+ghost use Rattle.gauss.specs.Echelon.{IsEchelon, bits_in};
 ghost use Rattle.gauss.specs.Masks.{AreNullMasks, free_unknowns, set_of, stride_of};
 
+use crate::echelon::Echelon;
 use crate::substitution::add_values;
 use fec_base::NoMemory;
 use null_witness::NullWord;
@@ -28,26 +29,18 @@ pub(crate) fn stride_of(sets: u32) -> usize
 
 // The null sets of the free unknowns: back substitution, with a bit for each free unknown in place
 // of a byte of a symbol.
-pub(crate) fn null_masks(
-    alloc: Global,
-    words: &[u64],
-    width: usize,
-    rows: usize,
-    pivots: &[u32],
-) -> Result<Masks, NoMemory>
-    requires few { length pivots.now ≤ 65536 }
-    requires width { length pivots.now ≤ width * 64 }
-    requires words { length words.now ≡ rows * width }
-    ensures { IfOk result (λ masks. AreNullMasks (bits_of width words.now) rows pivots.now
-        masks.sets masks.bytes.items) }
+pub(crate) fn null_masks(alloc: Global, form: &Echelon<'_>) -> Result<Masks, NoMemory>
+    requires form { IsEchelon form.now }
+    ensures { IfOk result (λ masks. AreNullMasks (bits_in form.now) form.now.rows
+        form.now.pivots.now masks.sets masks.bytes.items) }
 {
-    let free = free_unknowns(alloc, rows, pivots)?;
+    let free = free_unknowns(alloc, form.rows, form.pivots)?;
     let sets = free.len() as u32;
     let stride = stride_of(sets);
-    let mut bytes = vec![in alloc; 0u8; pivots.len() * stride]?;
-    put_free(&free, pivots.len(), stride, &mut bytes);
+    let mut bytes = vec![in alloc; 0u8; form.pivots.len() * stride]?;
+    put_free(&free, form.pivots.len(), stride, &mut bytes);
     let mut table = vec![in alloc; 0u8; 256 * stride]?;
-    add_values(words, width, rows, pivots, stride, &mut bytes, &mut table);
+    add_values(form, stride, &mut bytes, &mut table);
     Ok(Masks { sets, bytes })
 }
 

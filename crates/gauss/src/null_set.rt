@@ -4,62 +4,46 @@ ghost use Rattle.std.specs.Prelude.{length, IfOk};
 ghost use Rattle.std.proofs.Math.Bool.{xor as bool_xor};
 ghost use Rattle.sparse_rows.specs.Closure.{flagged, members};
 ghost use Rattle.gauss.specs.Packed.{bits_of};
-ghost use Rattle.gauss.specs.Elimination.{IsFirstFree, IsNullFlags, product, pivot_row};
+ghost use Rattle.gauss.specs.Elimination.{IsFirstFree, IsNullFlags, product};
+ghost use Rattle.gauss.specs.Echelon.{IsEchelon, bits_in, pivots_in, unknowns_in};
 
+use crate::echelon::Echelon;
 use crate::packed::has;
 use fec_base::NoMemory;
 use null_witness::NullWord;
 use std::alloc::Global;
 
 // The free unknown, and those below it that the pivot rows put into its null set.
-pub(crate) fn null_set(
-    alloc: Global,
-    words: &[u64],
-    width: usize,
-    rows: usize,
-    pivots: &[u32],
-    free: usize,
-) -> Result<NullWord, NoMemory>
-    requires few { length pivots.now ≤ 65536 }
-    requires width { length pivots.now ≤ width * 64 }
-    requires words { length words.now ≡ rows * width }
-    requires free { IsFirstFree rows pivots.now free }
+pub(crate) fn null_set(alloc: Global, form: &Echelon<'_>, free: usize) -> Result<NullWord, NoMemory>
+    requires form { IsEchelon form.now }
+    requires free { IsFirstFree form.now.rows form.now.pivots.now free }
     ensures { IfOk result (λ set. (flags : List Bool)
-        × IsNullFlags (length pivots.now) (bits_of width words.now) (pivot_row rows pivots.now) free
+        × IsNullFlags (unknowns_in form.now) (bits_in form.now) (pivots_in form.now) free
         flags
-        × (set ≡ members (length pivots.now) (flagged flags))) }
+        × (set ≡ members (unknowns_in form.now) (flagged flags))) }
 {
-    let mut flags = vec![in alloc; false; pivots.len()]?;
+    let mut flags = vec![in alloc; false; form.pivots.len()]?;
     flags[free] = true;
-    put_flags(words, width, rows, pivots, free, &mut flags);
+    put_flags(form, free, &mut flags);
     let set = flagged(alloc, &flags)?;
     let word = NullWord::new(alloc, &set)?;
     Ok(word)
 }
 
 // Flags the unknowns below the free one that belong to its null set, from the last one down.
-fn put_flags(
-    words: &[u64],
-    width: usize,
-    rows: usize,
-    pivots: &[u32],
-    free: usize,
-    flags: &mut [bool],
-)
-    requires few { length pivots.now ≤ 65536 }
-    requires width { length pivots.now ≤ width * 64 }
-    requires words { length words.now ≡ rows * width }
-    requires free { IsFirstFree rows pivots.now free }
-    requires count { length flags.old ≡ length pivots.now }
+fn put_flags(form: &Echelon<'_>, free: usize, flags: &mut [bool])
+    requires form { IsEchelon form.now }
+    requires free { IsFirstFree form.now.rows form.now.pivots.now free }
+    requires count { length flags.old ≡ unknowns_in form.now }
     requires flag { flagged flags.old free ≡ true }
     requires others { (c : ℕ) → c ≢ free → flagged flags.old c ≡ false }
-    ensures { IsNullFlags (length pivots.now) (bits_of width words.now) (pivot_row rows pivots.now)
+    ensures { IsNullFlags (unknowns_in form.now) (bits_in form.now) (pivots_in form.now)
         free
         flags.new }
 {
     for k in 0..free {
         let p = free - 1 - k;
-        flags[p] = is_odd(words, width, pivots[p] as usize, flags);
+        flags[p] = is_odd(form.words, form.width, form.pivots[p] as usize, flags);
     }
 }
 

@@ -6,6 +6,7 @@ ghost use Rattle.gauss.specs.Echelon.{IsEliminated};
 ghost use Rattle.gauss.specs.Reductions.{IsReduction};
 
 use crate::clash::any_clashes;
+use crate::echelon::Echelon;
 use crate::eliminated::after_elimination;
 use crate::masks::null_masks;
 use crate::packed::width_of;
@@ -58,11 +59,18 @@ fn read_form(
         → IfOk result (IsReduction s) }
 {
     let width = width_of(pivots.len() as u32);
+    let rows = leads.len();
+    let form = Echelon {
+        words,
+        width,
+        rows,
+        pivots,
+    };
     let mut sum = vec![in alloc; 0u8; len as usize]?;
-    if any_clashes(words, width, pivots, leads, sums, &mut sum) {
+    if any_clashes(&form, leads, sums, &mut sum) {
         return Ok(Reduction::Clash);
     }
-    let masks = null_masks(alloc, words, width, leads.len(), pivots)?;
-    let values = some_values(alloc, words, width, leads.len(), pivots, len, sums)?;
+    let masks = null_masks(alloc, &form)?;
+    let values = some_values(alloc, &form, len, sums)?;
     Ok(Reduction::Reduced(Reduced::new(values, masks)))
 }

@@ -7,6 +7,7 @@ ghost use Rattle.gauss.specs.Echelon.{IsEliminated};
 ghost use Rattle.gauss.specs.Elimination.{AllPivots, IsFirstFree};
 
 use crate::clash::any_clashes;
+use crate::echelon::Echelon;
 use crate::eliminated::after_elimination;
 use crate::null_set::null_set;
 use crate::packed::width_of;
@@ -49,14 +50,21 @@ fn read_answer(
         → IfOk result (IsAnswer s) }
 {
     let width = width_of(pivots.len() as u32);
+    let rows = leads.len();
+    let form = Echelon {
+        words,
+        width,
+        rows,
+        pivots,
+    };
     let mut sum = vec![in alloc; 0u8; len as usize]?;
-    if any_clashes(words, width, pivots, leads, sums, &mut sum) {
+    if any_clashes(&form, leads, sums, &mut sum) {
         return Ok(Answer::Clash);
     }
-    if let Some(free) = first_free(leads.len(), pivots) {
-        return Ok(Answer::Free(null_set(alloc, words, width, leads.len(), pivots, free)?));
+    if let Some(free) = first_free(rows, pivots) {
+        return Ok(Answer::Free(null_set(alloc, &form, free)?));
     }
-    let values = some_values(alloc, words, width, leads.len(), pivots, len, sums)?;
+    let values = some_values(alloc, &form, len, sums)?;
     Ok(Answer::One(values))
 }
 

@@ -1,11 +1,14 @@
 // A solution, some bytes of each symbol at a time.
 ghost use Rattle.std.specs.Prelude.{◌≡◌, ◌≤◌, ◌<◌, ◌+◌, ◌*◌, ◌⊎◌, ℕ, List, All, length, min};
 ghost use Rattle.std.specs.Prelude.{slice_index_or, IfOk, []};
-ghost use Rattle.fec_base.specs.Symbol.{IsSymbol, symbols_of};
-ghost use Rattle.gauss.specs.Packed.{AreSymbols, KeepsOthers, bits_of, byte_in, sum_byte};
-ghost use Rattle.gauss.specs.Elimination.{AreValues, IsValue, pivot_row};
+ghost use Rattle.fec_base.specs.Symbol.{symbols_of};
+ghost use Rattle.gauss.specs.Packed.{AreSymbols, KeepsOthers, byte_in, sum_byte};
+ghost use Rattle.gauss.specs.Elimination.{AreValues, IsValue};
+ghost use Rattle.gauss.specs.Echelon.{AreSums, IsEchelon, bits_in, pivots_in, unknowns_in};
+ghost use Rattle.gauss.specs.Tiles.{IsTile};
 
 use crate::Values;
+use crate::echelon::Echelon;
 use crate::substitution::substitute;
 use crate::symbols::{clear_symbol, store_symbol, tell_bytes};
 use fec_base::NoMemory;
@@ -16,48 +19,47 @@ use symbol_arena::Arena;
 // cache.
 const TILE: usize = 512;
 
+// The bytes of each symbol from `start` on, so many, where each symbol has `len` bytes.
+#[derive(Clone, Copy)]
+pub(crate) struct Tile {
+    pub(crate) len: usize,
+    pub(crate) start: usize,
+    pub(crate) size: usize,
+}
+
 // The values of the unknowns, zero for those without a pivot row.
 pub(crate) fn some_values(
     alloc: Global,
-    words: &[u64],
-    width: usize,
-    rows: usize,
-    pivots: &[u32],
+    form: &Echelon<'_>,
     len: u32,
     sums: &Arena,
 ) -> Result<Values, NoMemory>
-    requires few { length pivots.now ≤ 65536 }
-    requires width { length pivots.now ≤ width * 64 }
-    requires rows { rows ≤ 65536 }
-    requires words { length words.now ≡ rows * width }
+    requires form { IsEchelon form.now }
     requires some { 1 ≤ len }
     requires most { len ≤ 65535 }
-    requires sums { length sums.now ≡ rows }
-    requires symbols { All (IsSymbol len) sums.now }
+    requires sums { AreSums form.now.rows len sums.now }
     ensures { IfOk result (λ symbols. (values : List ℕ)
-        × (length values ≡ length pivots.now * len) × All (λ byte. byte < 256) values
-        × AreValues (length pivots.now) len (bits_of width words.now) (pivot_row rows pivots.now)
-        sums.now values
-        × (symbols ≡ symbols_of len (length pivots.now) values)) }
+        × (length values ≡ unknowns_in form.now * len) × All (λ byte. byte < 256) values
+        × AreValues (unknowns_in form.now) len (bits_in form.now) (pivots_in form.now) sums.now
+        values
+        × (symbols ≡ symbols_of len (unknowns_in form.now) values)) }
 {
-    let mut bytes = vec![in alloc; 0u8; pivots.len() * len as usize]?;
-    let tile = lesser(len as usize, TILE);
-    let mut part = vec![in alloc; 0u8; pivots.len() * tile]?;
-    let mut table = vec![in alloc; 0u8; 256 * tile]?;
+    let unknowns = form.pivots.len();
+    let mut bytes = vec![in alloc; 0u8; unknowns * len as usize]?;
+    let most = lesser(len as usize, TILE);
+    let mut part = vec![in alloc; 0u8; unknowns * most]?;
+    let mut table = vec![in alloc; 0u8; 256 * most]?;
     write_values(
-        words,
-        width,
-        rows,
-        pivots,
-        len as usize,
+        form,
         sums,
+        len as usize,
         &mut bytes,
-        tile,
+        most,
         &mut part,
         &mut table,
     );
     tell_bytes(&bytes);
-    Ok(values_of(pivots.len() as u32, len, bytes))
+    Ok(values_of(unknowns as u32, len, bytes))
 }
 
 // So many symbols that lie one after the other.
@@ -68,40 +70,32 @@ fn values_of(count: u32, len: u32, bytes: Vec<u8>) -> Values
     Values { count, len, bytes }
 }
 
-// Puts the values, tile after tile.
+// Puts the values, tile after tile, of so many bytes at most.
 fn write_values(
-    words: &[u64],
-    width: usize,
-    rows: usize,
-    pivots: &[u32],
-    len: usize,
+    form: &Echelon<'_>,
     sums: &Arena,
+    len: usize,
     values: &mut [u8],
-    tile: usize,
+    most: usize,
     part: &mut [u8],
     table: &mut [u8],
 )
-    requires few { length pivots.now ≤ 65536 }
-    requires width { length pivots.now ≤ width * 64 }
-    requires rows { rows ≤ 65536 }
-    requires words { length words.now ≡ rows * width }
-    requires most { len ≤ 65535 }
-    requires sums { length sums.now ≡ rows }
-    requires symbols { All (IsSymbol len) sums.now }
-    requires values { length values.old ≡ length pivots.now * len }
-    requires some { 1 ≤ tile }
-    requires tile { tile ≤ 512 }
-    requires part { length part.old ≡ length pivots.now * tile }
-    requires table { length table.old ≡ 256 * tile }
-    ensures { AreValues (length pivots.now) len (bits_of width words.now)
-        (pivot_row rows pivots.now) sums.now values.new }
+    requires form { IsEchelon form.now }
+    requires long { len ≤ 65535 }
+    requires sums { AreSums form.now.rows len sums.now }
+    requires values { length values.old ≡ unknowns_in form.now * len }
+    requires some { 1 ≤ most }
+    requires most { most ≤ 512 }
+    requires part { length part.old ≡ unknowns_in form.now * most }
+    requires table { length table.old ≡ 256 * most }
+    ensures { AreValues (unknowns_in form.now) len (bits_in form.now) (pivots_in form.now) sums.now
+        values.new }
 {
     let mut start = 0;
     while start < len {
-        let size = lesser(len - start, tile);
-        write_tile(
-            words, width, rows, pivots, len, sums, values, tile, part, table, start, size,
-        );
+        let size = lesser(len - start, most);
+        let tile = Tile { len, start, size };
+        write_tile(form, sums, tile, values, part, table);
         start += size;
     }
 }
@@ -116,126 +110,83 @@ fn lesser(a: usize, b: usize) -> usize
     a
 }
 
-// Puts the bytes of the values from `start` on, so many of each.
+// Puts a tile of the values.
 fn write_tile(
-    words: &[u64],
-    width: usize,
-    rows: usize,
-    pivots: &[u32],
-    len: usize,
+    form: &Echelon<'_>,
     sums: &Arena,
+    tile: Tile,
     values: &mut [u8],
-    tile: usize,
     part: &mut [u8],
     table: &mut [u8],
-    start: usize,
-    size: usize,
 )
-    requires few { length pivots.now ≤ 65536 }
-    requires width { length pivots.now ≤ width * 64 }
-    requires rows { rows ≤ 65536 }
-    requires words { length words.now ≡ rows * width }
-    requires most { len ≤ 65535 }
-    requires sums { length sums.now ≡ rows }
-    requires symbols { All (IsSymbol len) sums.now }
-    requires values { length values.old ≡ length pivots.now * len }
-    requires tile { tile ≤ 512 }
-    requires part { length part.old ≡ length pivots.now * tile }
-    requires table { length table.old ≡ 256 * tile }
-    requires size { size ≤ tile }
-    requires end { start + size ≤ len }
-    ensures tile { (p t : ℕ) → p < length pivots.now → start ≤ t → t < start + size
-        → IsValue (length pivots.now) len (bits_of width words.now) (pivot_row rows pivots.now)
-        sums.now values.new p t }
-    ensures others { (p t : ℕ) → p < length pivots.now → t < start
-        → byte_in len values.new t p ≡ byte_in len values.old t p }
+    requires form { IsEchelon form.now }
+    requires sums { AreSums form.now.rows tile.len sums.now }
+    requires tile { IsTile tile }
+    requires values { length values.old ≡ unknowns_in form.now * tile.len }
+    requires part { unknowns_in form.now * tile.size ≤ length part.old }
+    requires table { 256 * tile.size ≤ length table.old }
+    ensures tile { (p t : ℕ) → p < unknowns_in form.now → tile.start ≤ t
+        → t < tile.start + tile.size
+        → IsValue (unknowns_in form.now) tile.len (bits_in form.now) (pivots_in form.now) sums.now
+        values.new p t }
+    ensures others { (p t : ℕ) → p < unknowns_in form.now → t < tile.start
+        → byte_in tile.len values.new t p ≡ byte_in tile.len values.old t p }
 {
-    let part = &mut part[..pivots.len() * size];
-    load_tile(rows, pivots, len, sums, start, size, part);
-    substitute(
-        words,
-        width,
-        rows,
-        pivots,
-        size,
-        part,
-        &mut table[..256 * size],
-    );
-    store_tile(pivots.len(), len, part, start, size, values);
+    let part = &mut part[..form.pivots.len() * tile.size];
+    load_tile(form, sums, tile, part);
+    substitute(form, tile.size, part, &mut table[..256 * tile.size]);
+    store_tile(form.pivots.len(), tile, part, values);
 }
 
 // Makes each symbol of a tile that part of the sum of its unknown's pivot row, zero where there is
 // none.
-fn load_tile(
-    rows: usize,
-    pivots: &[u32],
-    len: usize,
-    sums: &Arena,
-    start: usize,
-    size: usize,
-    part: &mut [u8],
-)
-    requires few { length pivots.now ≤ 65536 }
-    requires rows { rows ≤ 65536 }
-    requires most { len ≤ 65535 }
-    requires sums { length sums.now ≡ rows }
-    requires symbols { All (IsSymbol len) sums.now }
-    requires end { start + size ≤ len }
-    requires part { length part.old ≡ length pivots.now * size }
-    ensures { (p t : ℕ) → p < length pivots.now → t < size → byte_in size part.new t p
-        ≡ sum_byte sums.now (start + t) (pivot_row rows pivots.now p) }
+fn load_tile(form: &Echelon<'_>, sums: &Arena, tile: Tile, part: &mut [u8])
+    requires form { IsEchelon form.now }
+    requires sums { AreSums form.now.rows tile.len sums.now }
+    requires tile { IsTile tile }
+    requires part { length part.old ≡ unknowns_in form.now * tile.size }
+    ensures { (p t : ℕ) → p < unknowns_in form.now → t < tile.size
+        → byte_in tile.size part.new t p
+        ≡ sum_byte sums.now (tile.start + t) (pivots_in form.now p) }
 {
-    for p in 0..pivots.len() {
-        load_part(rows, pivots[p], sums, start, size, part, p);
+    for p in 0..form.pivots.len() {
+        load_part(form.rows, form.pivots[p], sums, tile, part, p);
     }
 }
 
 // Makes symbol p of a tile that part of the sum of row r, zero where there is no such row.
-fn load_part(
-    rows: usize,
-    r: u32,
-    sums: &Arena,
-    start: usize,
-    size: usize,
-    part: &mut [u8],
-    p: usize,
-)
+fn load_part(rows: usize, r: u32, sums: &Arena, tile: Tile, part: &mut [u8], p: usize)
     requires rows { rows ≤ 65536 }
     requires sums { length sums.now ≡ rows }
-    requires long { (j : ℕ) → j < rows → start + size ≤ length (slice_index_or sums.now j []) }
-    requires part { p * size + size ≤ length part.old }
-    ensures symbol { (t : ℕ) → t < size
-        → byte_in size part.new t p ≡ sum_byte sums.now (start + t) r }
-    ensures others { KeepsOthers size p part.old part.new }
+    requires long { (j : ℕ) → j < rows
+        → tile.start + tile.size ≤ length (slice_index_or sums.now j []) }
+    requires part { p * tile.size + tile.size ≤ length part.old }
+    ensures symbol { (t : ℕ) → t < tile.size
+        → byte_in tile.size part.new t p ≡ sum_byte sums.now (tile.start + t) r }
+    ensures others { KeepsOthers tile.size p part.old part.new }
 {
     if r as usize >= rows {
-        clear_symbol(part, p, size);
+        clear_symbol(part, p, tile.size);
         return;
     }
-    store_symbol(part, p, &sums.get(r)[start..start + size]);
+    store_symbol(part, p, &sums.get(r)[tile.start..tile.start + tile.size]);
 }
 
 // Puts a tile's bytes into the values.
-fn store_tile(
-    unknowns: usize,
-    len: usize,
-    part: &[u8],
-    start: usize,
-    size: usize,
-    values: &mut [u8],
-)
+fn store_tile(unknowns: usize, tile: Tile, part: &[u8], values: &mut [u8])
     requires few { unknowns ≤ 65536 }
-    requires most { len ≤ 65535 }
-    requires end { start + size ≤ len }
-    requires part { length part.now ≡ unknowns * size }
-    requires values { length values.old ≡ unknowns * len }
-    ensures tile { (p t : ℕ) → p < unknowns → t < size
-        → byte_in len values.new (start + t) p ≡ byte_in size part.now t p }
-    ensures others { (p t : ℕ) → p < unknowns → t < len → (t < start) ⊎ (start + size ≤ t)
-        → byte_in len values.new t p ≡ byte_in len values.old t p }
+    requires tile { IsTile tile }
+    requires part { length part.now ≡ unknowns * tile.size }
+    requires values { length values.old ≡ unknowns * tile.len }
+    ensures tile { (p t : ℕ) → p < unknowns → t < tile.size
+        → byte_in tile.len values.new (tile.start + t) p ≡ byte_in tile.size part.now t p }
+    ensures others { (p t : ℕ) → p < unknowns → t < tile.len
+        → (t < tile.start) ⊎ (tile.start + tile.size ≤ t)
+        → byte_in tile.len values.new t p ≡ byte_in tile.len values.old t p }
 {
     for p in 0..unknowns {
-        store_part(&part[p * size..p * size + size], len, start, values, p);
+        let own = &part[p * tile.size..p * tile.size + tile.size];
+        store_part(own, tile.len, tile.start, values, p);
     }
 }
 

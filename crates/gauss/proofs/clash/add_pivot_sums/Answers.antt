@@ -1,30 +1,38 @@
-use Rattle.std.proofs.Common.{◌≡◌, ℕ, All, cond, length, get_or, sym, ap, ◌∙◌, subst, bit_xor}
+use Rattle.std.proofs.Common.{◌≡◌, ℕ, cond, length, get_or, sym, ap, ◌∙◌, subst, bit_xor}
 use Rattle.std.proofs.Common.{arith}
 use Rattle.std.proofs.lemmas.List.{get_or_default}
-use Rattle.fec_base.specs.Symbol.{IsSymbol}
 use Rattle.sparse_rows.proofs.Algebra.{right}
 use Rattle.sparse_rows.proofs.Planes.{byte_laws}
-use Rattle.gauss.specs.Packed.{bits_of, sum_byte}
-use Rattle.gauss.specs.Elimination.{pivot_row}
+use Rattle.gauss.specs.Packed.{sum_byte}
+use Rattle.gauss.specs.Echelon.{AreSums, bits_in, pivots_in, unknowns_in}
 use Rattle.gauss.proofs.Growing.{product_step}
+use Rattle.gauss.proofs.Words.{row_room}
 use Rattle.gauss.proofs.clash.add_pivot_sums.Goals as goal
 use Rattle.gauss.proofs.clash.add_pivot_sums.Goals.{then-has, else-has}
 
 pub loop-p-init : goal.loop-p-init
 loop-p-init c t lt = sym (right 0 bit_xor byte_laws (get_or c.args.sum.now t 0))
 
-pub add_row_sum-requires-clause-symbols : goal.add_row_sum-requires-clause-symbols
-add_row_sum-requires-clause-symbols c = subst (λ n. All (IsSymbol n) c.args.sums.now)
-    (sym c.loop-p.auto.sum) c.requires.symbols
+pub add_row_sum-requires-clause-sums : goal.add_row_sum-requires-clause-sums
+add_row_sum-requires-clause-sums c = subst (λ n. AreSums c.args.form.now.rows n c.args.sums.now)
+    (sym c.loop-p.auto.sum) c.requires.sums
+
+pub has-requires-clause-row : goal.has-requires-clause-row
+has-requires-clause-row c =
+    omega (
+      arith,
+      row_room c.args.form.now.rows c.args.form.now.width c.args.r c.requires.row,
+      c.requires.form.words,
+    )
 
 pub loop-p-preserved : goal.loop-p-preserved
 loop-p-preserved c t lt =
     let n : ℕ = length c.args.sum.now in
     let p : ℕ = c.loop-p.p in
-    let mask = bits_of c.args.width c.args.words.now c.args.r in
-    let x : ℕ → ℕ = λ q. sum_byte c.args.sums.now t (pivot_row c.args.rows c.args.pivots.now q) in
-    let row_is : get_or c.args.pivots.now p 0 ≡ pivot_row c.args.rows c.args.pivots.now p =
-    get_or_default c.args.pivots.now p 0 c.args.rows
+    let mask = bits_in c.args.form.now c.args.r in
+    let x : ℕ → ℕ = λ q. sum_byte c.args.sums.now t (pivots_in c.args.form.now q) in
+    let row_is : get_or c.args.form.now.pivots.now p 0 ≡ pivots_in c.args.form.now p =
+    get_or_default c.args.form.now.pivots.now p 0 c.args.form.now.rows
     (omega (arith, c.loop-p-test.true, c.loop-p.auto.p-end)) in
     let step = product_step 0 bit_xor byte_laws p mask x (get_or c.args.sum.now t 0)
     (get_or c.loop-p.sum t 0) (get_or c.if-has.sum t 0) (c.loop-p.invariant t lt) in
@@ -42,6 +50,6 @@ loop-p-preserved c t lt =
 
 pub returns : goal.returns
 returns c t lt =
-    let is : c.loop-p.p ≡ length c.args.pivots.now =
+    let is : c.loop-p.p ≡ unknowns_in c.args.form.now =
     omega (arith, c.loop-p-test.false, c.loop-p.auto.p-end) in
     rw is at (c.loop-p.invariant t lt)

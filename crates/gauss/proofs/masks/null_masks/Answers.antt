@@ -5,7 +5,7 @@ use Rattle.std.proofs.lemmas.List.{take_at}
 use Rattle.sparse_rows.proofs.Null.{members_below}
 use Rattle.gauss.specs.Elimination.{pivot_row}
 use Rattle.gauss.specs.Masks.{AreNullMasks, free_unknowns}
-use Rattle.gauss.specs.Packed.{bits_of}
+use Rattle.gauss.specs.Echelon.{bits_in, pivots_in, unknowns_in}
 use Rattle.gauss.proofs.MaskBits.{few_members, made}
 use Rattle.gauss.proofs.masks.null_masks.Goals as goal
 
@@ -24,47 +24,54 @@ few_free rows n pivots free is count few =
 pub overflow_cast-sets : goal.overflow_cast-sets
 overflow_cast-sets c = omega (
   arith,
-  few_free c.args.rows c.len-sets.result c.args.pivots.now
+  few_free c.args.form.now.rows c.len-sets.result c.args.form.now.pivots.now
       c.in_ok-free.free.items c.in_ok-free.ensures
-      (omega (arith, c.len-sets.ensures, c.in_ok-free.free.ok)) c.requires.few,
+      (omega (arith, c.len-sets.ensures, c.in_ok-free.free.ok)) c.requires.form.few,
 )
 
 pub stride_of-stride-requires : goal.stride_of-stride-requires
-stride_of-stride-requires c = few_free c.args.rows c.len-sets.result c.args.pivots.now
+stride_of-stride-requires c = few_free c.args.form.now.rows c.len-sets.result
+    c.args.form.now.pivots.now
     c.in_ok-free.free.items c.in_ok-free.ensures
-    (omega (arith, c.len-sets.ensures, c.in_ok-free.free.ok)) c.requires.few
+    (omega (arith, c.len-sets.ensures, c.in_ok-free.free.ok)) c.requires.form.few
 
-pub overflow_mul-pivots : goal.overflow_mul-pivots
-overflow_mul-pivots c =
-    let few : c.len-sets.result ≤ 65536 = few_free c.args.rows c.len-sets.result c.args.pivots.now
+pub overflow_mul-form : goal.overflow_mul-form
+overflow_mul-form c =
+    let few : c.len-sets.result ≤ 65536 = few_free c.args.form.now.rows c.len-sets.result
+    c.args.form.now.pivots.now
     c.in_ok-free.free.items c.in_ok-free.ensures
-    (omega (arith, c.len-sets.ensures, c.in_ok-free.free.ok)) c.requires.few in
-    let room : length c.args.pivots.now * c.stride_of-stride.result ≤ 65536 *
-    c.stride_of-stride.result = mul-le-mul_right c.stride_of-stride.result c.requires.few in
+    (omega (arith, c.len-sets.ensures, c.in_ok-free.free.ok)) c.requires.form.few in
+    let room : unknowns_in c.args.form.now * c.stride_of-stride.result ≤ 65536 *
+    c.stride_of-stride.result = mul-le-mul_right c.stride_of-stride.result c.requires.form.few in
     omega (arith, few, room, c.stride_of-stride.ensures)
 
 pub put_free-requires-clause-below : goal.put_free-requires-clause-below
-put_free-requires-clause-below c = subst (λ (xs : List ℕ). All (λ d. d < length c.args.pivots.now)
+put_free-requires-clause-below c = subst (λ (xs : List ℕ). All (λ d. d < unknowns_in
+    c.args.form.now)
     xs) (sym (c.deref.ensures.value ∙ c.in_ok-free.ensures))
-    (members_below (length c.args.pivots.now)
-    (λ p. not (ltb (pivot_row c.args.rows c.args.pivots.now p) c.args.rows)))
+    (members_below (unknowns_in c.args.form.now)
+    (λ p. not (ltb (pivots_in c.args.form.now p) c.args.form.now.rows)))
 
 pub put_free-requires-clause-few : goal.put_free-requires-clause-few
-put_free-requires-clause-few c = few_free c.args.rows (length c.deref.result.now) c.args.pivots.now
-    c.in_ok-free.free.items c.in_ok-free.ensures (ap length c.deref.ensures.value) c.requires.few
+put_free-requires-clause-few c = few_free c.args.form.now.rows (length c.deref.result.now)
+    c.args.form.now.pivots.now
+    c.in_ok-free.free.items c.in_ok-free.ensures (ap length c.deref.ensures.value)
+    c.requires.form.few
 
 pub overflow_mul-stride : goal.overflow_mul-stride
 overflow_mul-stride c =
-    let few : c.len-sets.result ≤ 65536 = few_free c.args.rows c.len-sets.result c.args.pivots.now
+    let few : c.len-sets.result ≤ 65536 = few_free c.args.form.now.rows c.len-sets.result
+    c.args.form.now.pivots.now
     c.in_ok-free.free.items c.in_ok-free.ensures
-    (omega (arith, c.len-sets.ensures, c.in_ok-free.free.ok)) c.requires.few in
+    (omega (arith, c.len-sets.ensures, c.in_ok-free.free.ok)) c.requires.form.few in
     omega (arith, few, c.stride_of-stride.ensures)
 
 pub add_values-requires-clause-len : goal.add_values-requires-clause-len
 add_values-requires-clause-len c =
-    let few : c.len-sets.result ≤ 65536 = few_free c.args.rows c.len-sets.result c.args.pivots.now
+    let few : c.len-sets.result ≤ 65536 = few_free c.args.form.now.rows c.len-sets.result
+    c.args.form.now.pivots.now
     c.in_ok-free.free.items c.in_ok-free.ensures
-    (omega (arith, c.len-sets.ensures, c.in_ok-free.free.ok)) c.requires.few in
+    (omega (arith, c.len-sets.ensures, c.in_ok-free.free.ok)) c.requires.form.few in
     omega (arith, few, c.stride_of-stride.ensures)
 
 pub returns : goal.returns
@@ -77,11 +84,12 @@ returns c =
     in
     let count : c.len-sets.result ≡ length c.deref.result.now =
     omega (arith, c.len-sets.ensures, c.in_ok-free.free.ok, ap length c.deref.ensures.value) in
-    subst (λ xs. AreNullMasks (bits_of c.args.width c.args.words.now) c.args.rows c.args.pivots.now
+    subst (λ xs. AreNullMasks (bits_in c.args.form.now) c.args.form.now.rows
+    c.args.form.now.pivots.now
     c.len-sets.result xs) (sym (take_at now _ n long))
-    (made c.args.rows c.len-sets.result c.stride_of-stride.result
-    (bits_of c.args.width c.args.words.now) c.args.pivots.now c.deref.result.now
-    c.deref_mut-2.result.now put now c.requires.few
+    (made c.args.form.now.rows c.len-sets.result c.stride_of-stride.result
+    (bits_in c.args.form.now) c.args.form.now.pivots.now c.deref.result.now
+    c.deref_mut-2.result.now put now c.requires.form.few
     (c.deref.ensures.value ∙ c.in_ok-free.ensures) count c.stride_of-stride.ensures
     (c.deref_mut-2.ensures.value ∙ take_at put (drop (length put) c.in_ok-bytes.bytes.items) n
     put_long)

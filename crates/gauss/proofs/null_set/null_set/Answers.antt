@@ -3,6 +3,7 @@ use Rattle.std.specs.List.Sorted.{IsStrictlyIncreasing}
 use Rattle.std.proofs.lemmas.List.{take_at}
 use Rattle.sparse_rows.specs.Closure.{flagged, members}
 use Rattle.sparse_rows.proofs.Null.{members_rise}
+use Rattle.gauss.specs.Echelon.{unknowns_in}
 use Rattle.gauss.proofs.null_set.null_set.Goals as goal
 
 pub new-requires : goal.new-requires
@@ -22,5 +23,5 @@ returns c = (
     flags_are = c.deref.ensures.value ∙ take_at c.put_flags.new.flags _ c.in_ok-flags.flags.len
         (omega (arith, c.put_flags.auto.flags, c.deref_mut.ensures.len))
 
-    count : length c.put_flags.new.flags ≡ length c.args.pivots.now
+    count : length c.put_flags.new.flags ≡ unknowns_in c.args.form.now
     count = c.put_flags.ensures.count

@@ -42,7 +42,8 @@ returns c s done =
     let masks = rw c.width_of-width.ensures at c.in_ok-masks.ensures in
     let sets : ℕ = c.in_ok-masks.masks.sets in
     let bytes : List ℕ = c.in_ok-masks.masks.bytes.items in
-    subst₂ IsReducedForm done.system (sym (c.new.ensures ∙ ap (λ (v : List (List ℕ)). form_of v sets bytes) w.4))
+    subst₂ IsReducedForm done.system (sym (c.new.ensures ∙ ap (λ (v : List (List ℕ)). form_of v
+    sets bytes) w.4))
     (read_form u c.args.len r done.first c.args.words.now c.args.sums.now c.args.pivots.now
     c.args.leads.now done.before
     c.requires.row_words done.stage zero w.0 w.1 w.2 w.3 sets bytes masks)

@@ -1,11 +1,12 @@
-use Rattle.std.proofs.Common.{◌≡◌, ◌&&◌, ℕ, List, length, get_or, ⊎_elim, bit_xor, ltb, refl, sym}
+use Rattle.std.proofs.Common.{◌≡◌, ◌&&◌, ℕ, List, get_or, ⊎_elim, bit_xor, ltb, refl, sym}
 use Rattle.std.proofs.Common.{ap, ◌∙◌, arith}
 use Rattle.std.proofs.lemmas.Bool.{cases_eq}
 use Rattle.std.proofs.lemmas.List.{get_or_default}
 use Rattle.sparse_rows.proofs.Algebra.{right}
 use Rattle.sparse_rows.proofs.Planes.{byte_laws}
-use Rattle.gauss.specs.Packed.{bits_of, byte_in}
-use Rattle.gauss.specs.Elimination.{before, pivot_row}
+use Rattle.gauss.specs.Packed.{byte_in}
+use Rattle.gauss.specs.Elimination.{before}
+use Rattle.gauss.specs.Echelon.{bits_in, pivots_in, unknowns_in}
 use Rattle.gauss.proofs.Words.{row_room}
 use Rattle.gauss.proofs.Groups.{entry_of_row}
 use Rattle.gauss.proofs.Passes.{none_yet}
@@ -14,8 +15,8 @@ use Rattle.gauss.proofs.substitution.add_group_recorded.Goals as goal
 pub loop-p-init : goal.loop-p-init
 loop-p-init c = record {
   done = λ q t lt lt2. sym (ap (bit_xor (byte_in c.args.len c.args.symbols.now t q))
-      (none_yet 0 bit_xor byte_laws (length c.args.pivots.now) c.args.group q
-      (bits_of c.args.width c.args.words.now (pivot_row c.args.rows c.args.pivots.now q))
+      (none_yet 0 bit_xor byte_laws (unknowns_in c.args.form.now) c.args.group q
+      (bits_in c.args.form.now (pivots_in c.args.form.now q))
       (byte_in c.args.len c.args.symbols.now t) lt) ∙ right 0 bit_xor byte_laws _);
   rest = λ q t le lt. refl;
 }
@@ -24,7 +25,7 @@ pub add_entry-requires-clause-symbols : goal.add_entry-requires-clause-symbols
 add_entry-requires-clause-symbols c =
     omega (
       arith,
-      row_room (length c.args.pivots.now) c.args.len c.loop-p.p
+      row_room (unknowns_in c.args.form.now) c.args.len c.loop-p.p
           (omega (arith, c.loop-p-test.true)),
       c.loop-p.auto.symbols,
       c.requires.symbols,
@@ -32,17 +33,18 @@ add_entry-requires-clause-symbols c =
 
 pub loop-p-preserved : goal.loop-p-preserved
 loop-p-preserved c =
-    let u : ℕ = length c.args.pivots.now in
+    let u : ℕ = unknowns_in c.args.form.now in
     let n : ℕ = c.args.len in
     let p : ℕ = c.loop-p.p in
     let g : ℕ = c.args.group in
     let i = c.loop-p.invariant in
     let first : List ℕ = c.args.symbols.now in
     let now : List ℕ = c.add_entry.new.symbols in
-    let rows = pivot_row c.args.rows c.args.pivots.now in
-    let bits = bits_of c.args.width c.args.words.now in
-    let row_is : get_or c.args.pivots.now p 0 ≡ rows p = get_or_default c.args.pivots.now p 0
-    c.args.rows (omega (arith, c.loop-p-test.true)) in
+    let rows = pivots_in c.args.form.now in
+    let bits = bits_in c.args.form.now in
+    let row_is : get_or c.args.form.now.pivots.now p 0 ≡ rows p = get_or_default
+    c.args.form.now.pivots.now p 0
+    c.args.form.now.rows (omega (arith, c.loop-p-test.true)) in
     record {
       done = λ q t lt lt2. ⊎_elim
           (λ (e : q ≡ p). rw e (c.add_entry.ensures.symbol t lt2

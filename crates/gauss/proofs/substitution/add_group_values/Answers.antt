@@ -1,15 +1,15 @@
-use Rattle.std.proofs.Common.{ℕ, length, bit_xor}
+use Rattle.std.proofs.Common.{ℕ, bit_xor}
 use Rattle.sparse_rows.proofs.Planes.{byte_laws}
-use Rattle.gauss.specs.Packed.{bits_of, byte_in}
-use Rattle.gauss.specs.Elimination.{pivot_row}
+use Rattle.gauss.specs.Packed.{byte_in}
+use Rattle.gauss.specs.Echelon.{bits_in, pivots_in, unknowns_in}
 use Rattle.gauss.proofs.Passes.{group_step}
 use Rattle.gauss.proofs.substitution.add_group_values.Goals as goal
 
 pub returns : goal.returns
 returns c p t lt lt2 =
     let n : ℕ = c.args.len in
-    group_step 0 bit_xor byte_laws (length c.args.pivots.now)
-    (λ q. bits_of c.args.width c.args.words.now (pivot_row c.args.rows c.args.pivots.now q))
+    group_step 0 bit_xor byte_laws (unknowns_in c.args.form.now)
+    (λ q. bits_in c.args.form.now (pivots_in c.args.form.now q))
     c.args.group
     (byte_in n c.args.symbols.now t) (byte_in n c.add_values_within.new.symbols t)
     (byte_in n c.add_values_before.new.symbols t)

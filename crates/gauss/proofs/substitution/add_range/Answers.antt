@@ -3,7 +3,8 @@ use Rattle.std.proofs.Common.{◌∙◌, arith}
 use Rattle.std.proofs.lemmas.Bool.{lt-ltb, le-ltb}
 use Rattle.sparse_rows.proofs.Algebra.{right}
 use Rattle.sparse_rows.proofs.Planes.{byte_laws}
-use Rattle.gauss.specs.Packed.{bits_of, byte_in}
+use Rattle.gauss.specs.Packed.{byte_in}
+use Rattle.gauss.specs.Echelon.{bits_in}
 use Rattle.gauss.proofs.Clearing.{and_no}
 use Rattle.gauss.proofs.Past.{bits_past}
 use Rattle.gauss.proofs.Growing.{product_step}
@@ -15,23 +16,27 @@ use Rattle.gauss.proofs.substitution.add_range.Goals.{then-has, else-has}
 pub loop-c-init : goal.loop-c-init
 loop-c-init c = record {
   symbol = λ t lt. sym (ap (bit_xor (byte_in c.args.len c.args.symbols.now t c.args.p))
-      (product_none 0 bit_xor byte_laws (c.args.p + 1) (λ d. ltb c.args.p d && bits_of c.args.width
-      c.args.words.now c.args.r d) (byte_in c.args.len c.args.symbols.now t)
+      (product_none 0 bit_xor byte_laws (c.args.p + 1) (λ d. ltb c.args.p d && bits_in
+      c.args.form.now c.args.r d) (byte_in c.args.len c.args.symbols.now t)
       (λ d lt2. rw (le-ltb c.args.p d (omega (arith, lt2))) refl)) ∙ right 0 bit_xor byte_laws _);
   others = λ q t ne lt. refl;
 }
 
 pub has-requires-clause-row : goal.has-requires-clause-row
-has-requires-clause-row c = omega
-    (arith, row_room c.args.rows c.args.width c.args.r c.if-r-rows.false, c.requires.words)
+has-requires-clause-row c = omega (
+  arith,
+  row_room c.args.form.now.rows c.args.form.now.width c.args.r c.if-r-form.false,
+  c.requires.form.words,
+)
 
-pub returns-then-r-rows-clause-symbol : goal.returns-then-r-rows-clause-symbol
-returns-then-r-rows-clause-symbol c t lt =
+pub returns-then-r-form-clause-symbol : goal.returns-then-r-form-clause-symbol
+returns-then-r-form-clause-symbol c t lt =
     sym (ap (bit_xor (byte_in c.args.len c.args.symbols.now t c.args.p))
-    (product_none 0 bit_xor byte_laws c.args.end (λ d. ltb c.args.p d && bits_of c.args.width
-    c.args.words.now c.args.r d) (byte_in c.args.len c.args.symbols.now t)
-    (λ d lt2. ap (λ b. ltb c.args.p d && b) (bits_past c.args.rows c.args.width c.args.r
-    c.args.words.now c.requires.words c.if-r-rows.true d) ∙ and_no (ltb c.args.p d)))
+    (product_none 0 bit_xor byte_laws c.args.end (λ d. ltb c.args.p d && bits_in c.args.form.now
+    c.args.r d) (byte_in c.args.len c.args.symbols.now t)
+    (λ d lt2. ap (λ b. ltb c.args.p d && b) (bits_past c.args.form.now.rows c.args.form.now.width
+    c.args.r
+    c.args.form.now.words.now c.requires.form.words c.if-r-form.true d) ∙ and_no (ltb c.args.p d)))
     ∙ right 0 bit_xor byte_laws _)
 
 pub add_symbol_within-requires-clause-c : goal.add_symbol_within-requires-clause-c
@@ -50,9 +55,9 @@ loop-c-preserved c =
     let d : ℕ = c.loop-c.c in
     let i = c.loop-c.invariant in
     let first : List ℕ = c.args.symbols.now in
-    let mask : ℕ → Bool = λ e. ltb p e && bits_of c.args.width c.args.words.now c.args.r e in
+    let mask : ℕ → Bool = λ e. ltb p e && bits_in c.args.form.now c.args.r e in
     let behind : p < d = omega (arith, c.loop-c.auto.c) in
-    let masks : mask d ≡ bits_of c.args.width c.args.words.now c.args.r d = rw (lt-ltb p d behind)
+    let masks : mask d ≡ bits_in c.args.form.now c.args.r d = rw (lt-ltb p d behind)
     refl in
     elim c.if-has.branch [
       | then-has w ↦ record {

@@ -1,20 +1,21 @@
-use Rattle.std.proofs.Common.{◌≡◌, ℕ, List, ◌+◌, ◌-◌, ◌/◌, length, bit_xor, sym, ap, ◌∙◌, subst}
+use Rattle.std.proofs.Common.{◌≡◌, ℕ, List, ◌+◌, ◌-◌, ◌/◌, bit_xor, sym, ap, ◌∙◌, subst}
 use Rattle.std.proofs.Common.{arith}
 use Rattle.sparse_rows.proofs.Algebra.{right}
 use Rattle.sparse_rows.proofs.Planes.{byte_laws}
-use Rattle.gauss.specs.Packed.{bits_of, byte_in}
-use Rattle.gauss.specs.Elimination.{behind, product, pivot_row}
+use Rattle.gauss.specs.Packed.{byte_in}
+use Rattle.gauss.specs.Elimination.{behind, product}
 use Rattle.gauss.specs.Groups.{AreAdded}
+use Rattle.gauss.specs.Echelon.{bits_in, pivots_in, unknowns_in}
 use Rattle.gauss.proofs.Groups.{from_group}
 use Rattle.gauss.proofs.Passes.{all_groups, behind_step, no_group}
 use Rattle.gauss.proofs.substitution.add_values.Goals as goal
 
 pub loop-k-init : goal.loop-k-init
 loop-k-init c p t lt lt2 =
-    let u : ℕ = length c.args.pivots.now in
+    let u : ℕ = unknowns_in c.args.form.now in
     let x : ℕ → ℕ = byte_in c.args.len c.args.symbols.now t in
     sym (ap (bit_xor (x p)) (no_group 0 bit_xor byte_laws u ((u + 7) / 8 - 0)
-    (behind (bits_of c.args.width c.args.words.now) (pivot_row c.args.rows c.args.pivots.now) p)
+    (behind (bits_in c.args.form.now) (pivots_in c.args.form.now) p)
     x (omega arith)) ∙ right 0 bit_xor byte_laws (x p))
 
 pub add_group_values-requires-clause-group : goal.add_group_values-requires-clause-group
@@ -22,12 +23,12 @@ add_group_values-requires-clause-group c = omega (arith, c.loop-k-test.true)
 
 pub loop-k-preserved : goal.loop-k-preserved
 loop-k-preserved c p t lt lt2 =
-    let u : ℕ = length c.args.pivots.now in
+    let u : ℕ = unknowns_in c.args.form.now in
     let n : ℕ = c.args.len in
     let groups : ℕ = (u + 7) / 8 in
     let g : ℕ = groups - 1 - c.loop-k.k in
-    let bits = bits_of c.args.width c.args.words.now in
-    let rows = pivot_row c.args.rows c.args.pivots.now in
+    let bits = bits_in c.args.form.now in
+    let rows = pivots_in c.args.form.now in
     let first : List ℕ = c.args.symbols.now in
     let now : List ℕ = c.loop-k.symbols in
     let next : List ℕ = c.add_group_values.new.symbols in
@@ -44,10 +45,10 @@ loop-k-preserved c p t lt lt2 =
 
 pub returns : goal.returns
 returns c p t lt lt2 =
-    let u : ℕ = length c.args.pivots.now in
+    let u : ℕ = unknowns_in c.args.form.now in
     let x : ℕ → ℕ = byte_in c.args.len c.loop-k.symbols t in
-    let mask = behind (bits_of c.args.width c.args.words.now)
-    (pivot_row c.args.rows c.args.pivots.now) p in
+    let mask = behind (bits_in c.args.form.now)
+    (pivots_in c.args.form.now) p in
     let none : (u + 7) / 8 - c.loop-k.k ≡ 0 = omega (arith, c.loop-k-test.false) in
     c.loop-k.invariant p t lt lt2 ∙ ap (bit_xor (byte_in c.args.len c.args.symbols.now t p))
     (ap (λ m. product 0 bit_xor u (from_group m mask) x) none ∙ all_groups 0 bit_xor byte_laws u

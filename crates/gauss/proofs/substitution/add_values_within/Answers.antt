@@ -1,12 +1,13 @@
 use Rattle.std.proofs.Common.{◌≡◌, ◌≢◌, ◌<◌, ◌+◌, ◌-◌, ◌*◌, ◌/◌, ◌&&◌, ◌⊎◌, inl, inr, ℕ, List}
-use Rattle.std.proofs.Common.{length, get_or, ⊎_elim, bit_xor, ltb, refl, sym, ap, ap₂, ◌∙◌, arith}
+use Rattle.std.proofs.Common.{get_or, ⊎_elim, bit_xor, ltb, refl, sym, ap, ap₂, ◌∙◌, arith}
 use Rattle.std.proofs.Math.Nat.{mul-le-mul_right}
 use Rattle.std.proofs.lemmas.Bool.{cases_eq}
 use Rattle.std.proofs.lemmas.List.{get_or_default}
 use Rattle.sparse_rows.proofs.Planes.{byte_laws}
-use Rattle.gauss.specs.Packed.{bits_of, byte_in}
-use Rattle.gauss.specs.Elimination.{behind, product, pivot_row}
+use Rattle.gauss.specs.Packed.{byte_in}
+use Rattle.gauss.specs.Elimination.{behind, product}
 use Rattle.gauss.specs.Groups.{in_group}
+use Rattle.gauss.specs.Echelon.{bits_in, pivots_in, unknowns_in}
 use Rattle.gauss.proofs.Passes.{behind_in_group, within_group}
 use Rattle.gauss.proofs.substitution.add_values_within.Goals as goal
 
@@ -28,7 +29,7 @@ add_range-requires-clause-symbols c =
 
 pub loop-k-preserved : goal.loop-k-preserved
 loop-k-preserved c =
-    let u : ℕ = length c.args.pivots.now in
+    let u : ℕ = unknowns_in c.args.form.now in
     let n : ℕ = c.args.len in
     let g : ℕ = c.args.group in
     let end : ℕ = c.group_end-end.result in
@@ -36,10 +37,11 @@ loop-k-preserved c =
     let inside : p < u = omega (arith, c.loop-k-test.true, c.group_end-end.ensures.within) in
     let at_group : p / 8 ≡ g = omega (arith, c.loop-k-test.true, c.group_end-end.ensures.few) in
     let i = c.loop-k.invariant in
-    let bits = bits_of c.args.width c.args.words.now in
-    let rows = pivot_row c.args.rows c.args.pivots.now in
-    let row_is : get_or c.args.pivots.now p 0 ≡ rows p = get_or_default c.args.pivots.now p 0
-    c.args.rows inside in
+    let bits = bits_in c.args.form.now in
+    let rows = pivots_in c.args.form.now in
+    let row_is : get_or c.args.form.now.pivots.now p 0 ≡ rows p = get_or_default
+    c.args.form.now.pivots.now p 0
+    c.args.form.now.rows inside in
     let first : List ℕ = c.args.symbols.now in
     let old : List ℕ = c.loop-k.symbols in
     let now : List ℕ = c.add_range.new.symbols in

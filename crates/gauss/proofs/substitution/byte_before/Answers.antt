@@ -9,7 +9,7 @@ pub returns-then-group-p-clause-bits : goal.returns-then-group-p-clause-bits
 returns-then-group-p-clause-bits c d e =
     let low : d < c.args.p = omega (arith, e, c.if-group-p.true) in
     ap (λ n. bit_at n (d % 8) == 1) c.byte_or_zero-byte.ensures.value
-    ∙ sym (bit_of_byte c.args.width c.args.words.now c.args.r c.args.group d e
+    ∙ sym (bit_of_byte c.args.form.now.width c.args.form.now.words.now c.args.r c.args.group d e
     (omega (arith, low, c.requires.p))) ∙ sym (rw (lt-ltb d c.args.p low) refl)
 
 pub returns-clause-bits : goal.returns-clause-bits
@@ -23,7 +23,7 @@ returns-clause-bits c d e =
       lt-ltb d c.args.p low,
     )
     (ap (λ n. bit_at n (d % 8) == 1) c.byte_or_zero-byte.ensures.value
-    ∙ sym (bit_of_byte c.args.width c.args.words.now c.args.r c.args.group d e
+    ∙ sym (bit_of_byte c.args.form.now.width c.args.form.now.words.now c.args.r c.args.group d e
     (omega (arith, low, c.requires.p)))))
     (λ (high : c.args.p ≤ d). rw (
       le-ltb (d % 8) k

@@ -18,26 +18,28 @@ part_long start size sum room = part_length sum start (start + size - start) siz
 
 pub returns-then-r-rows-clause-symbol : goal.returns-then-r-rows-clause-symbol
 returns-then-r-rows-clause-symbol c t lt = c.clear_symbol.ensures.symbol t lt
-    ∙ sym (none_past c.args.rows (c.args.start + t) c.args.r c.args.sums.now c.requires.sums
+    ∙ sym (none_past c.args.rows (c.args.tile.start + t) c.args.r c.args.sums.now c.requires.sums
     c.if-r-rows.true)
 
 pub returns-then-r-rows-clause-others : goal.returns-then-r-rows-clause-others
 returns-then-r-rows-clause-others c = c.clear_symbol.ensures.others
 
 pub slice_bounds-store_symbol-end : goal.slice_bounds-store_symbol-end
-slice_bounds-store_symbol-end c = subst (λ (s : List ℕ). c.args.start + c.args.size ≤ length s)
+slice_bounds-store_symbol-end c = subst (λ (s : List ℕ). c.args.tile.start + c.args.tile.size ≤
+    length s)
     (sym c.get.ensures) (c.requires.long c.args.r c.if-r-rows.false)
 
 pub store_symbol-requires : goal.store_symbol-requires
 store_symbol-requires c =
-    let room = subst (λ (s : List ℕ). c.args.start + c.args.size ≤ length s) (sym c.get.ensures)
+    let room = subst (λ (s : List ℕ). c.args.tile.start + c.args.tile.size ≤ length s) (sym
+    c.get.ensures)
     (c.requires.long c.args.r c.if-r-rows.false) in
-    rw (part_long c.args.start c.args.size c.get.result.now room) c.requires.part
+    rw (part_long c.args.tile.start c.args.tile.size c.get.result.now room) c.requires.part
 
 pub returns-clause-symbol : goal.returns-clause-symbol
 returns-clause-symbol c t lt =
-    let m : ℕ = c.args.size in
-    let start : ℕ = c.args.start in
+    let m : ℕ = c.args.tile.size in
+    let start : ℕ = c.args.tile.start in
     let room = subst (λ (s : List ℕ). start + m ≤ length s) (sym c.get.ensures)
     (c.requires.long c.args.r c.if-r-rows.false) in
     let part : List ℕ = take (start + m - start) (drop start c.get.result.now) in
@@ -49,8 +51,8 @@ returns-clause-symbol c t lt =
 
 pub returns-clause-others : goal.returns-clause-others
 returns-clause-others c q t ne lt =
-    let m : ℕ = c.args.size in
-    let start : ℕ = c.args.start in
+    let m : ℕ = c.args.tile.size in
+    let start : ℕ = c.args.tile.start in
     let room = subst (λ (s : List ℕ). start + m ≤ length s) (sym c.get.ensures)
     (c.requires.long c.args.r c.if-r-rows.false) in
     let part : List ℕ = take (start + m - start) (drop start c.get.result.now) in

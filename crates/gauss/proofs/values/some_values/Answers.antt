@@ -1,6 +1,7 @@
 use Rattle.std.proofs.Common.{◌≡◌, ◌<◌, length, drop, ℕ, List, All, ap, ◌∙◌, subst, arith}
 use Rattle.std.proofs.lemmas.List.{take_at}
 use Rattle.fec_base.specs.Symbol.{symbols_of}
+use Rattle.gauss.specs.Echelon.{unknowns_in}
 use Rattle.gauss.proofs.values.some_values.Goals as goal
 
 pub values_of-requires : goal.values_of-requires
@@ -12,14 +13,14 @@ values_of-requires c =
     long in
     record {
       long = ap length back ∙ omega (arith, long, c.in_ok-bytes.ensures.len);
-      few = c.requires.few;
+      few = c.requires.form.few;
       most = c.requires.most;
     }
 
 pub returns : goal.returns
 returns c =
     let new : List ℕ = c.write_values.new.values in
-    let u : ℕ = length c.args.pivots.now in
+    let u : ℕ = unknowns_in c.args.form.now in
     let long : length new ≡ c.in_ok-bytes.bytes.len =
     omega (arith, c.write_values.auto.values, c.deref_mut.ensures.len) in
     let back = take_at new (drop (length new) c.in_ok-bytes.bytes.items) c.in_ok-bytes.bytes.len

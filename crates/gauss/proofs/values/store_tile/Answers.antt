@@ -7,10 +7,10 @@ use Rattle.gauss.proofs.values.store_tile.Goals as goal
 pub loop-p-preserved : goal.loop-p-preserved
 loop-p-preserved c =
     let p : ℕ = c.loop-p.p in
-    let n : ℕ = c.args.len in
-    let m : ℕ = c.args.size in
+    let n : ℕ = c.args.tile.len in
+    let m : ℕ = c.args.tile.size in
     let a : ℕ = p * m in
-    let start : ℕ = c.args.start in
+    let start : ℕ = c.args.tile.start in
     let i = c.loop-p.invariant in
     let part : List ℕ = take (a + m - a) (drop a c.args.part.now) in
     let long : length part ≡ m = part_length c.args.part.now a (a + m - a) m (omega arith)
@@ -19,7 +19,11 @@ loop-p-preserved c =
       tile = λ q t lt lt2. ⊎_elim
           (λ (e : q ≡ p). rw e (c.store_part.ensures.tile t (omega (arith, long, lt2))
           ∙ part_of c.args.part.now a (a + m - a) m t (omega arith) lt2))
-          (λ ne. c.store_part.ensures.others q (start + t) ne (omega (arith, lt2, c.requires.end))
+          (λ ne. c.store_part.ensures.others q (start + t) ne (omega (
+            arith,
+            lt2,
+            c.requires.tile.within,
+          ))
           ∙ i.tile q t (omega (arith, ne, lt)) lt2)
           (cases_eq q p);
       others = λ q t lt w. ⊎_elim

@@ -4,8 +4,9 @@ use Rattle.gauss.proofs.values.store_tile.Given as goal
 
 abbrev pub invariant-loop-p : goal.invariant-loop-p
 invariant-loop-p l = record {
-  tile : (q t : ℕ) → q < l.p → t < l.size → byte_in l.len l.values (l.start + t) q ≡ byte_in l.size
+  tile : (q t : ℕ) → q < l.p → t < l.tile.size → byte_in l.tile.len l.values (l.tile.start + t) q ≡
+      byte_in l.tile.size
       l.part t q;
-  others : (q t : ℕ) → t < l.len → (t < l.start) ⊎ (l.start + l.size ≤ t)
-      → byte_in l.len l.values t q ≡ byte_in l.len l.initial.values t q;
+  others : (q t : ℕ) → t < l.tile.len → (t < l.tile.start) ⊎ (l.tile.start + l.tile.size ≤ t)
+      → byte_in l.tile.len l.values t q ≡ byte_in l.tile.len l.initial.values t q;
 }

@@ -1,13 +1,13 @@
-use Rattle.std.proofs.Common.{ℕ, ◌-◌, ◌<◌, ◌≤◌, length}
-use Rattle.gauss.specs.Packed.{bits_of}
-use Rattle.gauss.specs.Elimination.{IsValue, pivot_row}
+use Rattle.std.proofs.Common.{ℕ, ◌-◌, ◌<◌, ◌≤◌}
+use Rattle.gauss.specs.Elimination.{IsValue}
+use Rattle.gauss.specs.Echelon.{bits_in, pivots_in, unknowns_in}
 use Rattle.gauss.proofs.values.write_values.Given as goal
 
 abbrev pub invariant-loop-start : goal.invariant-loop-start
 invariant-loop-start l = record {
   within : l.start ≤ l.len;
-  done : (p t : ℕ) → p < length l.pivots → t < l.start
-      → IsValue (length l.pivots) l.len (bits_of l.width l.words) (pivot_row l.rows l.pivots) l.sums
+  done : (p t : ℕ) → p < unknowns_in l.form → t < l.start
+      → IsValue (unknowns_in l.form) l.len (bits_in l.form) (pivots_in l.form) l.sums
       l.values p t;
 }
 
