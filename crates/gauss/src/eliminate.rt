@@ -2,9 +2,10 @@
 ghost use Rattle.std.specs.Prelude.{◌≡◌, ◌≤◌, ◌<◌, ◌*◌, ◌+◌, ℕ, length, slice_index_or, IfOk};
 ghost use Rattle.gauss.specs.Packed.{bits_of, width_of};
 ghost use Rattle.gauss.specs.Elimination.{Advances, IsStageIn};
+ghost use Rattle.gauss.specs.Table.{IsGroup};
 
 use crate::packed::{group_end, width_of};
-use crate::table::{apply, eliminate_unknown};
+use crate::table::{Group, apply, eliminate_unknown};
 use fec_base::NoMemory;
 use std::alloc::Global;
 
@@ -71,44 +72,44 @@ fn eliminate_all(
         (bits_of width words.old) (bits_of width words.new)
         pivots.old leads.old pivots.new leads.new }
 {
+    let unknowns = pivots.len();
     let mut start = 0;
-    while start < pivots.len() {
-        let end = group_end(start, pivots.len());
-        eliminate_group(words, width, start, end, pivots, leads, table);
+    while start < unknowns {
+        let end = group_end(start, unknowns);
+        let number = start / 8;
+        let group = Group {
+            unknowns,
+            width,
+            number,
+        };
+        eliminate_group(words, group, end, pivots, leads, table);
         start = end;
     }
 }
 
-// The unknowns of one group: each is eliminated in the table, and then the table is added to the
-// rows.
+// The unknowns of one group, which ends there: each is eliminated in the table, and then the table
+// is added to the rows.
 fn eliminate_group(
     words: &mut [u64],
-    width: usize,
-    start: usize,
+    group: Group,
     end: usize,
     pivots: &mut [u32],
     leads: &mut [u32],
     table: &mut [u64],
 )
-    requires width { width ≡ width_of (length pivots.old) }
-    requires pivots { length pivots.old ≤ 65536 }
-    requires leads { length leads.old ≤ 65536 }
-    requires words { length words.old ≡ length leads.old * width }
-    requires table { length table.old ≡ 256 * width }
-    requires start { (g : ℕ) × (start ≡ 8 * g) }
-    requires few { end ≤ start + 8 }
-    requires some { start < end }
-    requires end { end ≤ length pivots.old }
-    ensures { Advances (length pivots.old) (length leads.old) start end
-        (bits_of width words.old) (bits_of width words.new)
+    requires group { IsGroup group pivots.old leads.old words.old table.old }
+    requires few { end ≤ group.number * 8 + 8 }
+    requires some { group.number * 8 < end }
+    requires end { end ≤ group.unknowns }
+    ensures { Advances group.unknowns (length leads.old) (group.number * 8) end
+        (bits_of group.width words.old) (bits_of group.width words.new)
         pivots.old leads.old pivots.new leads.new }
 {
-    let group = start / 8;
     clear(table);
-    for unknown in start..end {
-        eliminate_unknown(words, width, group, unknown, pivots, leads, table);
+    for unknown in group.number * 8..end {
+        eliminate_unknown(words, group, unknown, pivots, leads, table);
     }
-    apply(words, width, group, pivots.len(), leads, table);
+    apply(words, group, leads, table);
 }
 
 // Makes all words zero.

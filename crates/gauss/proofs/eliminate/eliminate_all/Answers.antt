@@ -1,4 +1,4 @@
-use Rattle.std.proofs.Common.{◌≡◌, ◌+◌, ◌*◌, ◌<◌, ◌⊎◌, inl, inr, ℕ, length, sym, subst, subst₂}
+use Rattle.std.proofs.Common.{◌≡◌, ◌+◌, ◌*◌, ◌/◌, ◌<◌, ◌⊎◌, inl, inr, ℕ, length, sym, subst}
 use Rattle.std.proofs.Common.{arith}
 use Rattle.gauss.specs.Packed.{bits_of}
 use Rattle.gauss.specs.Elimination.{IsStageIn}
@@ -23,26 +23,23 @@ loop-start-init c = record {
   stage = λ first h. h;
 }
 
-pub eliminate_group-requires-clause-start : goal.eliminate_group-requires-clause-start
-eliminate_group-requires-clause-start c = starts_group (length c.args.pivots.now) c.loop-start.start
-    (omega (arith, c.loop-start-test.true, c.loop-start.auto.pivots)) c.loop-start.invariant.group
-
 pub loop-start-preserved : goal.loop-start-preserved
 loop-start-preserved c =
     let l = c.loop-start in
     let u : ℕ = length c.args.pivots.now in
     let w = c.eliminate_group.new in
-    let low : l.start < u = omega (arith, c.loop-start-test.true, l.auto.pivots) in
+    let low : l.start < u = omega (arith, c.loop-start-test.true) in
+    let at_group = starts_group u l.start low l.invariant.group in
+    let start : l.start ≡ l.start / 8 * 8 = omega (arith, at_group.1) in
     record {
-      most = omega (arith, c.group_end-end.ensures.within, l.auto.pivots);
+      most = c.group_end-end.ensures.within;
       group = next_start u l.start c.group_end-end.result low l.invariant.group
-          (rw l.auto.pivots at c.group_end-end.ensures.whole);
-      stage = λ first h. subst₂ (λ (n m : ℕ). IsStageIn n m c.group_end-end.result first
-          (bits_of c.args.width w.words) w.pivots w.leads) l.auto.pivots l.auto.leads
-          (c.eliminate_group.ensures first
-          (subst₂ (λ (n m : ℕ). IsStageIn n m l.start first (bits_of c.args.width l.words)
-          l.pivots l.leads) (sym l.auto.pivots) (sym l.auto.leads)
-          (l.invariant.stage first h)));
+          c.group_end-end.ensures.whole;
+      stage = λ first h. subst (λ (m : ℕ). IsStageIn u m c.group_end-end.result first
+          (bits_of c.args.width w.words) w.pivots w.leads) l.auto.leads
+          ((rw (← start) at c.eliminate_group.ensures) first
+          (subst (λ (m : ℕ). IsStageIn u m l.start first (bits_of c.args.width l.words)
+          l.pivots l.leads) (sym l.auto.leads) (l.invariant.stage first h)));
     }
 
 pub returns : goal.returns

@@ -13,8 +13,8 @@ use Rattle.gauss.proofs.table.apply.Goals as goal
 pub loop-r-preserved : goal.loop-r-preserved
 loop-r-preserved c =
     let r : ℕ = c.loop-r.r in
-    let w : ℕ = c.args.width in
-    let u : ℕ = c.args.unknowns in
+    let w : ℕ = c.args.group.width in
+    let u : ℕ = c.args.group.unknowns in
     let i = c.loop-r.invariant in
     let first : List ℕ = c.args.words.now in
     let old : List ℕ = c.loop-r.words in
@@ -24,27 +24,30 @@ loop-r-preserved c =
     (omega (arith, c.loop-r-test.true, c.loop-r.auto.r-end)) in
     let bits_same : (d : ℕ) → bits_of w old r d ≡ bits_of w first r d = same_bits w old first r r
     (λ q lt. i.rest r q (omega arith) lt) in
-    let byte_same : byte_of w old r c.args.group ≡ byte_of w first r c.args.group =
-    ap (λ n. n / 2 ^ (c.args.group % 8 * 8) % 256) (i.rest r (c.args.group / 8) (omega arith)
+    let byte_same : byte_of w old r c.args.group.number ≡ byte_of w first r c.args.group.number =
+    ap (λ n. n / 2 ^ (c.args.group.number % 8 * 8) % 256) (i.rest r (c.args.group.number / 8)
+    (omega arith)
     (omega (arith, c.requires.group))) in
     let other : (j d : ℕ) → j ≢ r → bits_of w c.apply_row.new.words j d ≡ bits_of w old j d =
     λ j d ne. same_bits w c.apply_row.new.words old j j (λ q lt. c.apply_row.ensures.others j q
     ne lt) d in
-    let at : (d : ℕ) → bits_of w c.apply_row.new.words r d ≡ virtual u w c.args.group first table
+    let at : (d : ℕ) → bits_of w c.apply_row.new.words r d ≡ virtual u w c.args.group.number first
+    table
     c.args.leads.now r d = λ d. ⊎_elim
     (λ (lt : lead_of u c.args.leads.now r < u). c.apply_row.ensures.led (omega (arith, lead_is, lt))
     d ∙ bits_same d ∙ ap (λ b. cond b (bits_of w first r d)
-    (bool_xor (bits_of w first r d) (bits_of w table (byte_of w first r c.args.group) d)))
+    (bool_xor (bits_of w first r d) (bits_of w table (byte_of w first r c.args.group.number) d)))
     (sym (lt-ltb (lead_of u c.args.leads.now r) u lt)))
     (λ (le : u ≤ lead_of u c.args.leads.now r). c.apply_row.ensures.row (omega (arith, lead_is, le))
     d ∙ ap₂ (λ x b. bool_xor x (bits_of w table b d)) (bits_same d) byte_same
     ∙ ap (λ b. cond b (bits_of w first r d)
-    (bool_xor (bits_of w first r d) (bits_of w table (byte_of w first r c.args.group) d)))
+    (bool_xor (bits_of w first r d) (bits_of w table (byte_of w first r c.args.group.number) d)))
     (sym (le-ltb (lead_of u c.args.leads.now r) u le)))
     (cases_lt (lead_of u c.args.leads.now r) u) in
     record {
       done = λ j d lt. ⊎_elim
-          (λ (e : j ≡ r). subst (λ k. bits_of w c.apply_row.new.words k d ≡ virtual u w c.args.group
+          (λ (e : j ≡ r). subst (λ k. bits_of w c.apply_row.new.words k d ≡ virtual u w
+          c.args.group.number
           first table c.args.leads.now k d) (sym e) (at d))
           (λ ne. other j d ne ∙ i.done j d (omega (arith, ne))) (cases_eq j r);
       rest = λ j q le lt. c.apply_row.ensures.others j q (λ e. omega (arith, e)) lt
@@ -54,9 +57,10 @@ loop-r-preserved c =
 pub returns : goal.returns
 returns c j d = ⊎_elim
     (λ (lt : j < c.loop-r.r). c.loop-r.invariant.done j d lt)
-    (λ (le : c.loop-r.r ≤ j). same_bits c.args.width c.loop-r.words c.args.words.now j j
+    (λ (le : c.loop-r.r ≤ j). same_bits c.args.group.width c.loop-r.words c.args.words.now j j
     (λ q lt. c.loop-r.invariant.rest j q le lt) d
-    ∙ sym (virtual_past c.args.unknowns c.args.width c.args.group (length c.args.leads.now)
+    ∙ sym (virtual_past c.args.group.unknowns c.args.group.width c.args.group.number (length
+    c.args.leads.now)
     c.args.words.now c.args.table.now c.args.leads.now j d c.requires.words refl
     (omega (arith, c.loop-r-test.false)) c.requires.zero))
     (cases_lt j c.loop-r.r)

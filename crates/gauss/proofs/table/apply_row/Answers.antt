@@ -6,9 +6,9 @@ use Rattle.gauss.proofs.table.apply_row.Goals as goal
 
 pub returns-then-byte-eq0-clause-row : goal.returns-then-byte-eq0-clause-row
 returns-then-byte-eq0-clause-row c le d =
-    let zero : byte_of c.args.width c.args.words.now c.args.r c.args.group ≡ 0 =
+    let zero : byte_of c.args.group.width c.args.words.now c.args.r c.args.group.number ≡ 0 =
     omega (arith, c.byte_of-byte.ensures.value, c.if-byte-eq0.true) in
-    sym (ap (λ b. bool_xor (bits_of c.args.width c.args.words.now c.args.r d)
-    (bits_of c.args.width c.args.table.now b d)) zero
-    ∙ ap (bool_xor (bits_of c.args.width c.args.words.now c.args.r d)) (c.requires.zero d)
+    sym (ap (λ b. bool_xor (bits_of c.args.group.width c.args.words.now c.args.r d)
+    (bits_of c.args.group.width c.args.table.now b d)) zero
+    ∙ ap (bool_xor (bits_of c.args.group.width c.args.words.now c.args.r d)) (c.requires.zero d)
     ∙ bit_laws.comm _ false ∙ bit_laws.left _)
