@@ -1,17 +1,15 @@
 // A table of the sums of a group's symbols: for each of the 256 bytes the symbols whose bit it has.
 ghost use Rattle.std.specs.Prelude.{◌≡◌, ◌≤◌, ◌<◌, ◌+◌, ◌*◌, ◌^◌, ℕ, cond, length, bit_xor};
 ghost use Rattle.std.proofs.Common.{ltb};
-ghost use Rattle.gauss.specs.Packed.{KeepsOthers, byte_in};
+ghost use Rattle.gauss.specs.Packed.{AreSymbols, KeepsOthers, byte_in};
 ghost use Rattle.gauss.specs.Groups.{HoldsEntries};
 
 use crate::symbols::{add_to_symbol, clear_first, copy_symbol};
 
 // Makes each entry the sum of the symbols of the group whose bit its byte has.
 pub(crate) fn fill(symbols: &[u8], unknowns: usize, group: usize, len: usize, table: &mut [u8])
-    requires unknowns { unknowns ≤ 65536 }
     requires group { group * 8 < unknowns }
-    requires len { len ≤ 65535 }
-    requires symbols { length symbols.now ≡ unknowns * len }
+    requires symbols { AreSymbols len unknowns symbols.now }
     requires table { length table.old ≡ 256 * len }
     ensures { HoldsEntries unknowns len group symbols.now table.new }
 {
@@ -24,10 +22,8 @@ pub(crate) fn fill(symbols: &[u8], unknowns: usize, group: usize, len: usize, ta
 // Makes the entries of the bytes from 2 ^ bit on to before twice that: those before them, with the
 // symbol of this unknown, if there is one.
 fn double(symbols: &[u8], unknowns: usize, unknown: usize, len: usize, table: &mut [u8], bit: usize)
-    requires unknowns { unknowns ≤ 65536 }
     requires unknown { unknown ≤ 65543 }
-    requires len { len ≤ 65535 }
-    requires symbols { length symbols.now ≡ unknowns * len }
+    requires symbols { AreSymbols len unknowns symbols.now }
     requires table { length table.old ≡ 256 * len }
     requires bit { bit < 8 }
     ensures made { (b t : ℕ) → b < 2 ^ bit → t < len
@@ -52,10 +48,8 @@ fn put_entry(
     to: usize,
     from: usize,
 )
-    requires unknowns { unknowns ≤ 65536 }
     requires unknown { unknown ≤ 65543 }
-    requires len { len ≤ 65535 }
-    requires symbols { length symbols.now ≡ unknowns * len }
+    requires symbols { AreSymbols len unknowns symbols.now }
     requires to { to * len + len ≤ length table.old }
     requires from { from < to }
     requires few { to < 256 }

@@ -3,7 +3,7 @@ ghost use Rattle.std.specs.Prelude.{◌≡◌, ◌≢◌, ◌≤◌, ◌<◌, �
 ghost use Rattle.std.specs.Prelude.{bit_xor};
 ghost use Rattle.std.specs.Int.{bit_at};
 ghost use Rattle.std.proofs.Common.{ltb};
-ghost use Rattle.gauss.specs.Packed.{KeepsOthers, byte_in};
+ghost use Rattle.gauss.specs.Packed.{AreSymbols, KeepsOthers, byte_in};
 ghost use Rattle.gauss.specs.Elimination.{AreSubstituted, before, behind, product};
 ghost use Rattle.gauss.specs.Echelon.{IsEchelon, bits_in, pivots_in, unknowns_in};
 ghost use Rattle.gauss.specs.Groups.{AreAdded, HoldsEntries, in_group};
@@ -17,8 +17,7 @@ use crate::symbols::add_symbol_within;
 // That of an unknown without a pivot row stays as it is.
 pub(crate) fn substitute(form: &Echelon<'_>, len: usize, symbols: &mut [u8], table: &mut [u8])
     requires form { IsEchelon form.now }
-    requires len { len ≤ 65535 }
-    requires symbols { length symbols.old ≡ unknowns_in form.now * len }
+    requires symbols { AreSymbols len (unknowns_in form.now) symbols.old }
     requires table { length table.old ≡ 256 * len }
     ensures { AreSubstituted (unknowns_in form.now) len (bits_in form.now)
         (pivots_in form.now) symbols.old symbols.new }
@@ -32,8 +31,7 @@ pub(crate) fn substitute(form: &Echelon<'_>, len: usize, symbols: &mut [u8], tab
 // hand are still the first ones.
 fn add_recorded(form: &Echelon<'_>, len: usize, symbols: &mut [u8], table: &mut [u8])
     requires form { IsEchelon form.now }
-    requires len { len ≤ 65535 }
-    requires symbols { length symbols.old ≡ unknowns_in form.now * len }
+    requires symbols { AreSymbols len (unknowns_in form.now) symbols.old }
     requires table { length table.old ≡ 256 * len }
     ensures { AreAdded (unknowns_in form.now) len
         (before (bits_in form.now) (pivots_in form.now))
@@ -57,8 +55,7 @@ fn add_group_recorded(
 )
     requires form { IsEchelon form.now }
     requires group { group * 8 < unknowns_in form.now }
-    requires len { len ≤ 65535 }
-    requires symbols { length symbols.old ≡ unknowns_in form.now * len }
+    requires symbols { AreSymbols len (unknowns_in form.now) symbols.old }
     requires table { length table.now ≡ 256 * len }
     requires entries { HoldsEntries (unknowns_in form.now) len group symbols.old table.now }
     ensures { AreAdded (unknowns_in form.now) len
@@ -91,8 +88,7 @@ fn byte_before(form: &Echelon<'_>, r: usize, group: usize, p: usize) -> usize
 // those behind it, the symbol is a value.
 pub(crate) fn add_values(form: &Echelon<'_>, len: usize, symbols: &mut [u8], table: &mut [u8])
     requires form { IsEchelon form.now }
-    requires len { len ≤ 65535 }
-    requires symbols { length symbols.old ≡ unknowns_in form.now * len }
+    requires symbols { AreSymbols len (unknowns_in form.now) symbols.old }
     requires table { length table.old ≡ 256 * len }
     ensures { AreAdded (unknowns_in form.now) len
         (behind (bits_in form.now) (pivots_in form.now))
@@ -115,8 +111,7 @@ fn add_group_values(
 )
     requires form { IsEchelon form.now }
     requires group { group * 8 < unknowns_in form.now }
-    requires len { len ≤ 65535 }
-    requires symbols { length symbols.old ≡ unknowns_in form.now * len }
+    requires symbols { AreSymbols len (unknowns_in form.now) symbols.old }
     requires table { length table.old ≡ 256 * len }
     ensures { AreAdded (unknowns_in form.now) len
         (λ p. in_group group (behind (bits_in form.now) (pivots_in form.now) p))
@@ -132,8 +127,7 @@ fn add_group_values(
 fn add_values_within(form: &Echelon<'_>, group: usize, len: usize, symbols: &mut [u8])
     requires form { IsEchelon form.now }
     requires group { group * 8 < unknowns_in form.now }
-    requires len { len ≤ 65535 }
-    requires symbols { length symbols.old ≡ unknowns_in form.now * len }
+    requires symbols { AreSymbols len (unknowns_in form.now) symbols.old }
     ensures own { (p t : ℕ) → p < unknowns_in form.now → p / 8 ≡ group → t < len
         → byte_in len symbols.new t p ≡ bit_xor (byte_in len symbols.old t p)
         (product 0 bit_xor (unknowns_in form.now)
@@ -177,8 +171,7 @@ fn add_range(form: &Echelon<'_>, r: usize, p: usize, end: usize, len: usize, sym
 fn add_values_before(form: &Echelon<'_>, group: usize, len: usize, symbols: &mut [u8], table: &[u8])
     requires form { IsEchelon form.now }
     requires group { group * 8 < unknowns_in form.now }
-    requires len { len ≤ 65535 }
-    requires symbols { length symbols.old ≡ unknowns_in form.now * len }
+    requires symbols { AreSymbols len (unknowns_in form.now) symbols.old }
     requires table { length table.now ≡ 256 * len }
     requires entries { HoldsEntries (unknowns_in form.now) len group symbols.old table.now }
     ensures low { (p t : ℕ) → p < group * 8 → t < len

@@ -31,15 +31,13 @@ overflow_cast-sets c = omega (
 
 pub stride_of-stride-requires : goal.stride_of-stride-requires
 stride_of-stride-requires c = few_free c.args.form.now.rows c.len-sets.result
-    c.args.form.now.pivots.now
-    c.in_ok-free.free.items c.in_ok-free.ensures
+    c.args.form.now.pivots.now c.in_ok-free.free.items c.in_ok-free.ensures
     (omega (arith, c.len-sets.ensures, c.in_ok-free.free.ok)) c.requires.form.few
 
 pub overflow_mul-form : goal.overflow_mul-form
 overflow_mul-form c =
     let few : c.len-sets.result ≤ 65536 = few_free c.args.form.now.rows c.len-sets.result
-    c.args.form.now.pivots.now
-    c.in_ok-free.free.items c.in_ok-free.ensures
+    c.args.form.now.pivots.now c.in_ok-free.free.items c.in_ok-free.ensures
     (omega (arith, c.len-sets.ensures, c.in_ok-free.free.ok)) c.requires.form.few in
     let room : unknowns_in c.args.form.now * c.stride_of-stride.result ≤ 65536 *
     c.stride_of-stride.result = mul-le-mul_right c.stride_of-stride.result c.requires.form.few in
@@ -61,18 +59,20 @@ put_free-requires-clause-few c = few_free c.args.form.now.rows (length c.deref.r
 pub overflow_mul-stride : goal.overflow_mul-stride
 overflow_mul-stride c =
     let few : c.len-sets.result ≤ 65536 = few_free c.args.form.now.rows c.len-sets.result
-    c.args.form.now.pivots.now
-    c.in_ok-free.free.items c.in_ok-free.ensures
+    c.args.form.now.pivots.now c.in_ok-free.free.items c.in_ok-free.ensures
     (omega (arith, c.len-sets.ensures, c.in_ok-free.free.ok)) c.requires.form.few in
     omega (arith, few, c.stride_of-stride.ensures)
 
-pub add_values-requires-clause-len : goal.add_values-requires-clause-len
-add_values-requires-clause-len c =
+pub add_values-requires-clause-symbols : goal.add_values-requires-clause-symbols
+add_values-requires-clause-symbols c =
     let few : c.len-sets.result ≤ 65536 = few_free c.args.form.now.rows c.len-sets.result
-    c.args.form.now.pivots.now
-    c.in_ok-free.free.items c.in_ok-free.ensures
+    c.args.form.now.pivots.now c.in_ok-free.free.items c.in_ok-free.ensures
     (omega (arith, c.len-sets.ensures, c.in_ok-free.free.ok)) c.requires.form.few in
-    omega (arith, few, c.stride_of-stride.ensures)
+    record {
+      long = omega (arith, c.deref_mut-2.ensures.len, c.in_ok-bytes.ensures.len);
+      few = c.requires.form.few;
+      most = omega (arith, few, c.stride_of-stride.ensures);
+    }
 
 pub returns : goal.returns
 returns c =
@@ -85,8 +85,7 @@ returns c =
     let count : c.len-sets.result ≡ length c.deref.result.now =
     omega (arith, c.len-sets.ensures, c.in_ok-free.free.ok, ap length c.deref.ensures.value) in
     subst (λ xs. AreNullMasks (bits_in c.args.form.now) c.args.form.now.rows
-    c.args.form.now.pivots.now
-    c.len-sets.result xs) (sym (take_at now _ n long))
+    c.args.form.now.pivots.now c.len-sets.result xs) (sym (take_at now _ n long))
     (made c.args.form.now.rows c.len-sets.result c.stride_of-stride.result
     (bits_in c.args.form.now) c.args.form.now.pivots.now c.deref.result.now
     c.deref_mut-2.result.now put now c.requires.form.few

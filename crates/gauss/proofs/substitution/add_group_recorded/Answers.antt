@@ -28,7 +28,7 @@ add_entry-requires-clause-symbols c =
       row_room (unknowns_in c.args.form.now) c.args.len c.loop-p.p
           (omega (arith, c.loop-p-test.true)),
       c.loop-p.auto.symbols,
-      c.requires.symbols,
+      c.requires.symbols.long,
     )
 
 pub loop-p-preserved : goal.loop-p-preserved

@@ -24,7 +24,7 @@ add_range-requires-clause-symbols c =
       arith,
       mul-le-mul_right c.args.len c.group_end-end.ensures.within,
       c.loop-k.auto.symbols,
-      c.requires.symbols,
+      c.requires.symbols.long,
     )
 
 pub loop-k-preserved : goal.loop-k-preserved
