@@ -17,6 +17,8 @@ use Rattle.fec_base.specs.Outside.{Hearing, Stream}
 use Rattle.tool_commands.specs.Outside.{Streams}
 use Rattle.tool_commands.specs.EncodeRun.{EncodeDue, Encoded, IsEncodeRun, RefusesEncode}
 use Rattle.tool_commands.specs.Ending.{IsRefusal, OrRefusal}
+use Rattle.object_file.specs.Received.{IsPacketFile}
+use Rattle.tool_laws.specs.RoundTrip.{AreSent}
 use Rattle.tool_laws.specs.RunLaws.{IsCleanDecode, OrMemory}
 use Rattle.object_file.specs.declared.options.EncodeOptions.{EncodeOptions}
 use Rattle.tool_laws.proofs.CleanDecodes.{all_decoded}
@@ -37,11 +39,32 @@ done_due o input now out text due = ⊎_elim
     due
 
 -- what stands where nothing stood is what was appended
-appended_all : (now : List ℕ) (file : List ℕ) (old new : Option (List ℕ)) → old ≡ Some []
+pub appended_all : (now : List ℕ) (file : List ℕ) (old new : Option (List ℕ)) → old ≡ Some []
     → new ≡ Some now → Appends old new file → now ≡ file
 appended_all now file old new first last appends =
     subst (λ (l : Option (List ℕ)). Appends l (Some now) file) first
     (subst (λ (l : Option (List ℕ)). Appends old l file) last appends)
+
+-- what an `encode` wrote is the packet file of what it read
+encoding_of : (o : EncodeOptions) (first last : Streams) (object file : List ℕ)
+    → IsEncodeRun o first last status.Done → first.input.bytes ≡ Some object
+    → first.output.bytes ≡ Some [] → last.output.bytes ≡ Some file
+    → (text : List ℕ) × IsEncoding (header_for o (length object)) o.shape.draws object file text
+encoding_of o first last object file encodes input output made =
+    let (made_file, text, is_due, written, told) = encodes.ends.done refl in
+    let e : Encoded o first.input last.input made_file text = done_due o first.input last.input
+    made_file text is_due in
+    let object_is : e.object ≡ object = taken_all object e.object last.input.bytes
+    (subst (λ (l : Option (List ℕ)). Consumes l last.input.bytes e.object) input e.reads.read)
+    e.reads.ended in
+    let file_is : file ≡ made_file = appended_all file made_file first.output.bytes
+    last.output.bytes output made written in (
+      text,
+      subst (λ (l : List ℕ). IsEncoding (header_for o (length object)) o.shape.draws object l text)
+          (sym file_is)
+          (subst (λ (l : List ℕ). IsEncoding (header_for o (length l)) o.shape.draws l made_file
+          text) object_is e.encoding),
+    )
 
 module _ (header_one : HeaderIsOne) (packet_one : PacketIsOne) (holds : ClosureHolds)
     (same : ClosureHasSameNullWords) (source : NullWordHoldsSource) where
@@ -82,18 +105,34 @@ module _ (header_one : HeaderIsOne) (packet_one : PacketIsOne) (holds : ClosureH
       object)
   encoded_decoded o first last object file limit early most before after watch watch_now ended
       encodes input output made enough run =
-      let (made_file, text, is_due, written, told) = encodes.ends.done refl in
-      let e : Encoded o first.input last.input made_file text = done_due o first.input last.input
-      made_file text is_due in
-      let object_is : e.object ≡ object = taken_all object e.object last.input.bytes
-      (subst (λ (l : Option (List ℕ)). Consumes l last.input.bytes e.object) input e.reads.read)
-      e.reads.ended in
-      let file_is : file ≡ made_file = appended_all file made_file first.output.bytes
-      last.output.bytes output made written in
-      let encoding : IsEncoding (header_for o (length object)) o.shape.draws object file text =
-      subst (λ (l : List ℕ). IsEncoding (header_for o (length object)) o.shape.draws object l text)
-      (sym file_is)
-      (subst (λ (l : List ℕ). IsEncoding (header_for o (length l)) o.shape.draws l made_file text)
-      object_is e.encoding) in
+      let (text, encoding) = encoding_of o first last object file encodes input output made in
       file_decoded (header_for o (length object)) o.shape.draws limit object file text early most
       before after watch watch_now ended refl encoding enough run
+
+-- the packets of what an `encode` wrote
+pub encoded_file : HeaderIsOne → PacketIsOne → (o : EncodeOptions) (first last : Streams)
+    (object file : List ℕ)
+    → IsEncodeRun o first last status.Done → first.input.bytes ≡ Some object
+    → first.output.bytes ≡ Some [] → last.output.bytes ≡ Some file
+    → (packets : List Packet) × AreSent (header_for o (length object)) o.shape.draws object packets
+    × IsPacketFile (header_for o (length object)) (length packets) packets file
+    × (length packets ≤ total_symbols (header_for o (length object)))
+encoded_file header_one packet_one o first last object file encodes input output made =
+    let h = header_for o (length object) in
+    let (text, encoding) = encoding_of o first last object file encodes input output made in
+    let packets : List Packet = packet_list 0 encoding.words in
+    let are_sent = file_sent header_one packet_one h o.shape.draws object file text refl encoding in (
+      packets,
+      are_sent.0,
+      record {
+        header = encoding.header;
+        each = are_sent.0.packets_are.each;
+        few = omega arith;
+        bytes_are = are_sent.1;
+      },
+      omega (
+        arith,
+        list_long header_one packet_one h o.shape.draws object encoding.words encoding.header
+            encoding.encoded,
+      ),
+    )

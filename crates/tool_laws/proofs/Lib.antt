@@ -21,3 +21,4 @@ mod CleanPasses
 mod DecodedFiles
 mod CleanDecodes
 mod EncodedThenDecoded
+mod Lossy

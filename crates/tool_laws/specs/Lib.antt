@@ -2,3 +2,4 @@ pub mod Laws
 pub mod RoundTrip
 pub mod RunLaws
 pub mod PerfLaws
+pub mod LossLaws

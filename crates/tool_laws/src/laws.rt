@@ -1,6 +1,7 @@
 // Laws over the definitions alone.
 ghost use Rattle.tool_laws.specs.Laws.{DecodingIsOne, EncodingIsOne, PacketFileHasNoFault};
 ghost use Rattle.tool_laws.specs.Laws.{PacketFileIsOne};
+ghost use Rattle.tool_laws.specs.LossLaws.{LossLeavesPacketFile, LostIsNeverDecodedWrong};
 ghost use Rattle.tool_laws.specs.PerfLaws.{CodeIsTried, PerfIsOne};
 ghost use Rattle.tool_laws.specs.RoundTrip.{ChosenDecodeRight, ChosenDecodeWithoutNullWords};
 ghost use Rattle.tool_laws.specs.RoundTrip.{DecodeUndoesEncode, GivenBackByAll};
@@ -173,3 +174,16 @@ pub fn one_text_for_each_perf()
 pub fn codes_are_tried()
     ensures { CodeIsTried }
 {}
+
+/// What a `lose` writes is a packet file of the same header, whose packets are among those that it
+/// read. So what was encoded and then lost in part is never decoded wrong: the object is written,
+/// or some block is undetermined, or memory lacks.
+pub fn what_is_left_is_never_decoded_wrong()
+    ensures left { LossLeavesPacketFile }
+    ensures decoded { LostIsNeverDecodedWrong }
+{
+    headers_and_packets_have_one_spelling();
+    null_words_follow_the_closure();
+    null_words_hold_a_source_symbol();
+    null_words_show_what_is_open();
+}
