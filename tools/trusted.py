@@ -46,6 +46,7 @@ NAME = re.compile(r"\.?[A-Za-z_][\w'-]*")
 HEAD = re.compile(
     r"(?:pub )?(?:abbrev|unfoldable|record|data)(?: pub)? ([^\s:(]+)|pub ([^\s:(]+) :"
 )
+CASE = re.compile(r"^  (\w+) :")
 USE = re.compile(r"^ *(?:ghost )?use Rattle\.([\w.]+?)(?:\.\{([^}]*)\}| as ([\w-]+))?;?$", re.M)
 ALSO = re.compile(r"^pub use Rattle\.(\w+)\.specs\.(\w+)$", re.M)
 RUST_USE = re.compile(r"^(?:pub )?use (\w+)(?:::\w+)*::(?:\{([^}]*)\}|(\w+));", re.M)
@@ -149,6 +150,8 @@ class File:
         self.path, self.text = path, path.read_text()
         self.crate = path.relative_to(CRATES).parts[0]
         self.imports, self.definitions = {}, {}
+        # The cases of a `data`, by their names.
+        self.cases = {}
         for module, items, alias in USE.findall(self.text):
             if alias:
                 self.imports[alias] = (module, None)
@@ -168,6 +171,8 @@ class File:
                 self.definitions[current.name] = current
             elif not current or line[0] not in " }" and line.split()[0] != current.name:
                 sys.exit(f"{place(self.path)}:{number}: not understood")
+            elif " data " in f" {current.text[0]}" and (match := CASE.match(line)):
+                self.cases[match[1]] = current
             current.text.append(line)
 
     def functions(self):
@@ -213,6 +218,8 @@ class Project:
         where = self.also.get((crate, parts[1]), (crate, parts[1]))
         if where in self.specs and item in self.specs[where].definitions:
             return self.specs[where].definitions[item]
+        if where in self.specs and item in self.specs[where].cases:
+            return self.specs[where].cases[item]
         self.errors.add(f"{place(file.path)}: `{item}` isn't in {crate}/specs/{parts[1]}.antt")
         return None
 

@@ -4,5 +4,6 @@ pub mod Faults
 pub mod Reading
 pub mod Taking
 pub mod OneReading
+pub mod OnePacket
 pub mod Laws
 pub mod FaultLaws

@@ -4,7 +4,7 @@ use Rattle.std.specs.Io.KnownBytes.{Consumes, IsAtEnd}
 use Rattle.fec_base.specs.Causes.{Rose}
 use Rattle.fec_base.specs.Outside.{Stream}
 use Rattle.packet_file.specs.Header.{HeaderFields, IsHeader, header_bytes}
-use Rattle.packet_file.specs.Packets.{IsPacketOf, Packet, packet_bytes, spelled}
+use Rattle.packet_file.specs.Packets.{IsPacketOf, Packet, spelled}
 use Rattle.packet_file.specs.Faults.{HasHeaderFault, HasPacketFault}
 use Rattle.packet_file.specs.declared.fault.FileFault.{FileFault}
 use Rattle.packet_file.specs.declared.fault.FileFault.TheVariants.{ReadFault}
@@ -67,15 +67,3 @@ LacksHeader input input_now Failed = Rose input.faults input_now.faults
 LacksHeader input input_now (Bad fault) =
     (piece : List ℕ) × Consumes input.bytes input_now.bytes piece × HasHeaderFault piece fault
     × (length piece < 26 → IsAtEnd input_now.bytes)
-
--- packet number `index` of the file was taken, of at most `most`
-pub record TakesPacketOf (h : HeaderFields) (most index : ℕ) (input input_now : Stream)
-    (p : Packet) : Type 0 where
-  pub packet : IsPacketOf h p
-  pub within : index < most
-  pub taken : Consumes input.bytes input_now.bytes (packet_bytes p.0 p.1)
-
--- a piece was taken that is no packet number `index`, of at most `most`, and the reading stopped
-abbrev pub StopsBefore : HeaderFields → ℕ → ℕ → Stream → Stream → Stop → Type 0
-StopsBefore h most index input input_now stop = (piece : List ℕ)
-    × Consumes input.bytes input_now.bytes piece × StopsAt h most index input input_now piece stop

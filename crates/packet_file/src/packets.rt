@@ -9,7 +9,8 @@ ghost use Rattle.packet_file.specs.Faults.{HasPacketFault};
 ghost use Rattle.packet_file.specs.Reading.{FailsAtPacket, TakesFewer};
 ghost use Rattle.packet_file.specs.Taking.{TakesAtMost};
 ghost use Rattle.fec_base.specs.Outside.{stream};
-ghost use Rattle.packet_file.specs.OneReading.{StopsBefore, TakesPacketOf, stop_by};
+ghost use Rattle.packet_file.specs.OneReading.{stop_by};
+ghost use Rattle.packet_file.specs.OnePacket.{StopsBefore, TakesPacketOf};
 ghost use Rattle.packet_file.specs.OneReading.Stop.{End};
 
 use crate::{FileFault, Header};

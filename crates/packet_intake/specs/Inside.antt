@@ -3,7 +3,8 @@ use Rattle.std.specs.Prelude.{◌≡◌, ℕ}
 use Rattle.fec_base.specs.Outside.{Stream}
 use Rattle.packet_file.specs.Header.{HeaderFields}
 use Rattle.packet_file.specs.Packets.{Packet}
-use Rattle.packet_file.specs.OneReading.{StopsBefore, TakesPacketOf, stop_by}
+use Rattle.packet_file.specs.OneReading.{stop_by}
+use Rattle.packet_file.specs.OnePacket.{StopsBefore, TakesPacketOf}
 use Rattle.packet_intake.specs.declared.refusal.IntakeRefusal.{IntakeRefusal}
 use Rattle.packet_intake.specs.declared.refusal.IntakeRefusal.TheVariants.{File, Taker}
 

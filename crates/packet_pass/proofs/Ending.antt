@@ -7,7 +7,8 @@ use Rattle.fec_base.specs.Causes.{Rose}
 use Rattle.fec_base.specs.Outside.{Stream}
 use Rattle.packet_file.specs.Header.{HeaderFields}
 use Rattle.packet_file.specs.Packets.{Packet}
-use Rattle.packet_file.specs.OneReading.{Stop, StopsBefore, stop_by}
+use Rattle.packet_file.specs.OneReading.{Stop, stop_by}
+use Rattle.packet_file.specs.OnePacket.{StopsBefore}
 use Rattle.packet_file.specs.OneReading.Stop.{Enough}
 use Rattle.packet_file.proofs.Readings.{reads_more, reads_none, reads_stop}
 use Rattle.packet_pass.specs.Pass.{text_of, texts, texts_from}

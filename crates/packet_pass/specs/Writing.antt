@@ -6,7 +6,8 @@ use Rattle.fec_base.specs.Causes.{Rose}
 use Rattle.fec_base.specs.Outside.{Stream}
 use Rattle.packet_file.specs.Header.{HeaderFields}
 use Rattle.packet_file.specs.Packets.{Packet}
-use Rattle.packet_file.specs.OneReading.{Reads, Stop, StopsBefore, TakesPacketOf, stop_by}
+use Rattle.packet_file.specs.OneReading.{Reads, Stop, stop_by}
+use Rattle.packet_file.specs.OnePacket.{StopsBefore, TakesPacketOf}
 use Rattle.packet_file.specs.OneReading.Stop.{Enough}
 use Rattle.packet_pass.specs.Pass.{CutsText, loss_in, seed_in, text_of, texts}
 use Rattle.packet_pass.specs.declared.kind.Pass.{Pass}

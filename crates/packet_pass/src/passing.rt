@@ -2,7 +2,7 @@
 ghost use Rattle.std.specs.Prelude.{◌≡◌, ◌+◌, ◌≤◌, List, true, false, length, Ok, IfOk, IfErr};
 ghost use Rattle.fec_base.specs.Outside.{stream};
 ghost use Rattle.packet_file.specs.Packets.{Packet};
-ghost use Rattle.packet_file.specs.OneReading.{StopsBefore};
+ghost use Rattle.packet_file.specs.OnePacket.{StopsBefore};
 ghost use Rattle.packet_file.specs.OneReading.Stop.{End};
 ghost use Rattle.packet_pass.specs.Pass.{PassEnds, PassesWhole};
 ghost use Rattle.packet_pass.specs.Ranges.{IsPass};
