@@ -13,8 +13,9 @@ loop-unknown-init c = record {
   zero = λ d. none_zero c.args.group.width c.clear.new.table d c.clear.ensures;
   stage = λ first h. subst (λ (f : ℕ → Set). IsStageIn c.args.group.unknowns
       (length c.args.leads.now) (c.args.group.number * 8) first f c.args.pivots.now
-      c.args.leads.now) (sym (virtual_none c.args.group.unknowns c.args.group.width c.args.group.number
-      c.args.words.now c.clear.new.table c.args.leads.now c.clear.ensures)) h;
+      c.args.leads.now) (sym (virtual_none c.args.group.unknowns c.args.group.width
+      c.args.group.number c.args.words.now c.clear.new.table c.args.leads.now
+      c.clear.ensures)) h;
 }
 
 pub loop-unknown-preserved : goal.loop-unknown-preserved
