@@ -48,7 +48,8 @@ module _ (pass : Pass) (most : ℕ) (h : HeaderFields) (input mid now output out
   pub read_behind : (packets : List Packet) (stop : Stop)
       → PassesPackets pass most h mid now out_mid out_now packets stop
       → ReadsFile most input now h packets stop
-  read_behind packets stop s = file_read most h input mid now packets stop header taken later s.reads
+  read_behind packets stop s = file_read most h input mid now packets stop header taken later
+      s.reads
 
   pub ends_early : (refusal : PassRefusal)
       → EndsEarly pass most h mid now out_mid out_now refusal

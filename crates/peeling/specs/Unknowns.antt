@@ -1,5 +1,6 @@
 -- Inside: what a row has left, and the sum of what it has seen.
-use Rattle.std.specs.Prelude.{◌≡◌, ◌<◌, ◌%◌, ℕ, List, [], ◌∷◌, length, filter, bit_xor, slice_index_or}
+use Rattle.std.specs.Prelude.{◌≡◌, ◌<◌, ◌%◌, ℕ, List, [], ◌∷◌, length, filter, bit_xor}
+use Rattle.std.specs.Prelude.{slice_index_or}
 use Rattle.std.specs.Prelude.{All}
 use Rattle.fec_base.specs.Symbol.{IsSymbol, xor_sum}
 use Rattle.sparse_rows.specs.Matrix.{Matrix, row_of}

@@ -58,8 +58,8 @@ struct Store {
 /// and the sum of the known symbols. A column that becomes known is worked off once: each of its
 /// rows is read, and gains its symbol. So all arrivals together take at most two steps for each
 /// entry of the matrix, whatever their order, and one arrival at most two for each entry of the
-/// columns that it makes known. Beside the code it holds n + (n - k) symbols in one block of memory,
-/// four bytes for each row and six for each position.
+/// columns that it makes known. Beside the code it holds n + (n - k) symbols in one block of
+/// memory, four bytes for each row and six for each position.
 #[derive(Drop)]
 pub struct Peeler {
     code: Code,

@@ -99,7 +99,8 @@ rises_push (a ∷ b ∷ starts) end later h le = (h.0, rises_push (b ∷ starts)
 
 -- a row put behind the columns, and their new end behind the starts
 rows_push : (starts columns row : List ℕ) → RisesTo (length columns) starts
-    → lists_from (starts ++ length (columns ++ row) ∷ []) (columns ++ row) ≡ lists_from starts columns
+    → lists_from (starts ++ length (columns ++ row) ∷ []) (columns ++ row) ≡ lists_from starts
+    columns
     ++ row ∷ []
 rows_push [] columns row h = absurd h
 rows_push (a ∷ []) columns row h =
@@ -176,7 +177,8 @@ pub laid_within : (lists : List (SmallVec ℕ)) (i : ℕ) (list : SmallVec ℕ)
     → AreLaid starts items (lists_of (take i lists)) → more ≡ items ++ list.items
     → length more ≤ sum_by length (lists_of lists)
 laid_within lists i list starts items more lt is h more_is =
-    let all : sum_by length (take i (lists_of lists)) + length (get_or (lists_of lists) i []) ≤ sum_by
+    let all : sum_by length (take i (lists_of lists)) + length (get_or (lists_of lists) i []) ≤
+    sum_by
     length (lists_of lists) = sum_by_more_le length (lists_of lists) i [] (rw length_lists lt) in
     let front : length items ≡ sum_by length (take i (lists_of lists)) =
     laid_long starts items (lists_of (take i lists)) h

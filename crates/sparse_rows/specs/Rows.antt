@@ -14,7 +14,8 @@ lists_of rows = map (λ (row : SmallVec ℕ). row.items) rows
 abbrev pub matrix_of_rows : ℕ → ℕ → List (SmallVec ℕ) → Matrix
 matrix_of_rows k n rows = record { k = k; n = n; rows = lists_of rows }
 
--- the lists that lie one after the other in one list of items, each from its start to the next start
+-- the lists that lie one after the other in one list of items, each from its start to the next
+-- start
 abbrev pub lists_from : List ℕ → List ℕ → List (List ℕ)
 lists_from [] items = []
 lists_from (start ∷ []) items = []

@@ -179,7 +179,10 @@ module _ (name : Text) (names : List Text) where
           × (walked (rules_for names) [] (waits_with rows opened) word ≡ idle_with rows
           (Some (opened, word ∷ []))))
       go None e = inr (rw (dd, lo, e) refl, rw (dd, lo, e, by_id names opened, k, same opened) refl)
-      go (Some flags) e = elim (bundle_is (length flags) flags (held_with rows (Some (opened, [])))) [
+      go (Some flags) e = elim (bundle_is (length flags) flags (held_with rows (Some (
+        opened,
+        [],
+      )))) [
         | inl bad ↦ inl (rw (dd, lo, e, bad) refl)
         | inr ok ↦ inr (
           rw (dd, lo, e, ok.0, ok.1) refl,

@@ -144,7 +144,14 @@ ends_more due due_now refuses refuses_now output output_now report report_now en
     (FrontOf due_now) output output_now report report_now ended
     (λ s out text. ⊎_elim (λ (d : due s out text). inl (more s out text d))
     (λ (none, refusal, is, cause, named). inr (none, refusal, is, causes refusal cause, named)))
-    (λ out (whole, text, d, n, short, is). (whole, text, more status.Done whole text d, n, short, is))
+    (λ out (whole, text, d, n, short, is). (
+      whole,
+      text,
+      more status.Done whole text d,
+      n,
+      short,
+      is,
+    ))
     e
 
 module _ (due : Due) (refuses : Refusal → Type 0) (output report report_now : Stream)

@@ -20,7 +20,8 @@ use Rattle.object_file.specs.Options.{header_for}
 use Rattle.tool_commands.specs.Outside.{Streams}
 use Rattle.object_file.specs.Told.{HasCodes}
 use Rattle.fec_base.specs.Outside.{Stream}
-use Rattle.tool_commands.specs.EncodeRun.{EncodeDue, Encoded, IsEncodeRun, IsTooLarge, RefusesEncode}
+use Rattle.tool_commands.specs.EncodeRun.{EncodeDue, Encoded, IsEncodeRun, IsTooLarge}
+use Rattle.tool_commands.specs.EncodeRun.{RefusesEncode}
 use Rattle.tool_laws.specs.RunLaws.{NothingFails, OrMemory}
 use Rattle.object_file.specs.declared.options.EncodeOptions.{EncodeOptions}
 use Rattle.object_file.specs.declared.causes.Refusal.{Refusal}

@@ -121,7 +121,8 @@ encoded_file header_one packet_one o first last object file encodes input output
     let h = header_for o (length object) in
     let (text, encoding) = encoding_of o first last object file encodes input output made in
     let packets : List Packet = packet_list 0 encoding.words in
-    let are_sent = file_sent header_one packet_one h o.shape.draws object file text refl encoding in (
+    let are_sent = file_sent header_one packet_one h o.shape.draws object file text refl
+    encoding in (
       packets,
       are_sent.0,
       record {

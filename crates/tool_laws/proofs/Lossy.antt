@@ -120,9 +120,11 @@ module _ (header_one : HeaderIsOne) (packet_one : PacketIsOne) (law : Undetermin
     pub never_wrong : LostIsNeverDecodedWrong
     never_wrong o first last object file loss seed read sent came left limit early most before after
         watch watch_now ended encodes input output made loses taken empty lost enough run =
-        let (packets, are_sent, file_is, few) = encoded_file header_one packet_one o first last object
+        let (packets, are_sent, file_is, few) = encoded_file header_one packet_one o first last
+        object
         file encodes input output made in
-        let (h, packets_read, kept, whole, rest, among, fewer_kept) = loss_leaves loss seed read sent came file
+        let (h, packets_read, kept, whole, rest, among, fewer_kept) = loss_leaves loss seed read
+        sent came file
         left loses taken empty lost in
         let (own, packets_are) = reading_one header_one packet_one h (header_for o (length object))
         read (length packets) packets_read packets file whole file_is in

@@ -1,6 +1,7 @@
 -- What a run comes to where no sink fails: all that is due at its status, and a refusal only where
 -- memory lacks.
-use Rattle.std.proofs.Common.{◌≡◌, ◌≢◌, ◌⊎◌, ⊎_elim, inl, inr, refl, sym, ap, subst, ◌∙◌, List, [], ℕ}
+use Rattle.std.proofs.Common.{◌≡◌, ◌≢◌, ◌⊎◌, ⊎_elim, inl, inr, refl, sym, ap, subst, ◌∙◌, List, []}
+use Rattle.std.proofs.Common.{ℕ}
 use Rattle.std.proofs.Common.{Option, Some, None, append-nil}
 use Rattle.std.specs.Io.KnownBytes.{Appends, Keeps}
 use Rattle.fec_base.specs.Bytes.{AppendsFront}

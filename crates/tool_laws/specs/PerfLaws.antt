@@ -14,7 +14,8 @@ use Rattle.tool_base.specs.declared.status.Status.TheVariants as status
 abbrev pub PerfIsOne : Type 0
 PerfIsOne = (o : PerfOptions) (t other : Tried o) → tried_text o t ≡ tried_text o other
 
--- a code within the limits isn't refused: the lines of its runs are written, and nothing is reported
+-- a code within the limits isn't refused: the lines of its runs are written, and nothing is
+-- reported
 abbrev pub CodeIsTried : Type 0
 CodeIsTried = (o : PerfOptions) (built : CountedMatrix) (before after : Streams) (ended : Status)
     → block_bytes o ≤ 268435456 → shape_matrix o.shape o.k o.n ≡ Some built

@@ -1,7 +1,8 @@
 //! The laws of the program: what follows from the definitions of its commands alone. A packet file
-//! has one reading, an object one encoding, packets one outcome; `decode` undoes `encode`; and a run
-//! comes through where nothing fails. A law is the contract of a function that calls other laws and
-//! does nothing else. The crate stands on `tool_commands` and `object_file` for what it speaks of.
+//! has one reading, an object one encoding, packets one outcome; `decode` undoes `encode`; what
+//! `lose` leaves is never decoded wrong; and a run comes through where nothing fails. A law is the
+//! contract of a function that calls other laws and does nothing else. The crate stands on
+//! `tool_commands` and `object_file` for what it speaks of.
 #![tactic(auto)]
 
 mod laws;

@@ -1,5 +1,5 @@
-//! Sums of symbols and the test for the zero symbol, in lanes of 16 and 32 and tiles of 64 bytes. It
-//! stands on `fec_base`, which says what the sum of two symbols is. It promises that each call
+//! Sums of symbols and the test for the zero symbol, in lanes of 16 and 32 and tiles of 64 bytes.
+//! It stands on `fec_base`, which says what the sum of two symbols is. It promises that each call
 //! gives exactly what a plain loop over the bytes gives, at every length. It takes no memory.
 #![tactic(auto)]
 

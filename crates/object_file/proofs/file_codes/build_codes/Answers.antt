@@ -4,6 +4,7 @@ use Rattle.object_file.specs.BuiltCodes.{HasSize, RefusesCodes}
 use Rattle.object_file.specs.Codes.{count_at}
 use Rattle.object_file.proofs.Building.{AreBuilt, built_same, built_next, refuses_next}
 use Rattle.object_file.proofs.file_codes.build_codes.Goals as goal
+use Rattle.object_file.proofs.file_codes.build_codes.Goals.{}
 use Rattle.object_file.proofs.file_codes.build_codes.Goals.{then-not-has_code+in_ok-build_code+in_ok-push}
 use Rattle.object_file.proofs.file_codes.build_codes.Goals.{else-not-has_code}
 

@@ -3,6 +3,7 @@ use Rattle.packet_file.specs.Faults.{AreNotZero}
 use Rattle.packet_file.proofs.Spelled.{not_reserved}
 use Rattle.packet_file.proofs.header_file.parse_codec.Goals as goal
 use Rattle.packet_file.proofs.header_file.parse_codec.Goals.{then-bytes-ne0-via-then-bytes-ne0}
+use Rattle.packet_file.proofs.header_file.parse_codec.Goals.{}
 use Rattle.packet_file.proofs.header_file.parse_codec.Goals.{then-bytes-ne0-via-else-bytes-ne0+then-bytes-ne0-2}
 
 pub returns-then-bytes-ne0-clause-fault : goal.returns-then-bytes-ne0-clause-fault

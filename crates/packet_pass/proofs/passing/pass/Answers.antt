@@ -71,7 +71,8 @@ returns-clause-whole g c =
     record {
       header = h;
       packets = packets;
-      reads = read_behind pass most h input mid now output out_mid out_now header taken written later
+      reads = read_behind pass most h input mid now output out_mid out_now header taken written
+          later
           sink_later packets End s;
       written = written_behind pass most h input mid now output out_mid out_now header taken written
           later sink_later packets End s;

@@ -2,7 +2,9 @@ use Rattle.std.proofs.Common.{sym, ap, ◌∙◌, Some}
 use Rattle.staircase.specs.LeftSide.{drawn_matrix}
 use Rattle.staircase.proofs.Filled.{filled_with}
 use Rattle.staircase.proofs.Gains.{second_stays, second_stays_alone, second_over, second_gains}
+use Rattle.staircase.proofs.extras.add_second.Goals.{}
 use Rattle.staircase.proofs.extras.add_second.Goals.{else-source_degree-eq1-via-then-source_degree-eq1+else-k-ge2}
+use Rattle.staircase.proofs.extras.add_second.Goals.{}
 use Rattle.staircase.proofs.extras.add_second.Goals.{else-source_degree-eq1-via-else-source_degree-eq1}
 use Rattle.staircase.proofs.extras.add_second.Goals as goal
 

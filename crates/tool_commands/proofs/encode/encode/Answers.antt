@@ -23,13 +23,15 @@ returns-in-Ok g c =
     let now = stream (left c.read_and_make.new.input)
     (g.S.Source.faults c.read_and_make.new.input) in
     record {
-      ends = ends_map (FileDue made.header file.0) _ (FrontOf (FileDue made.header file.0)) _ _ _ _ _
+      ends = ends_map (FileDue made.header file.0) _ (FrontOf (FileDue made.header file.0)) _ _
+          _ _ _
           c.deliver.result
           (due_of c.args.options.now input now made.header file.0 found.0 found.1 file.2)
           (λ out (whole, text, due, n, short, is). (
             whole,
             text,
-            whole_of c.args.options.now input now made.header file.0 found.0 found.1 file.2 whole text
+            whole_of c.args.options.now input now made.header file.0 found.0 found.1 file.2
+                whole text
                 due,
             n,
             short,

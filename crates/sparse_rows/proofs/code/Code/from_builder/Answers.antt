@@ -15,7 +15,8 @@ of-requires-clause-few c =
     (matrix_of_rows c.b.inside.k c.b.inside.n c.b.inside.rows.items) c.b.invariant)
 
 pub of-requires-2-clause-few : goal.of-requires-2-clause-few
-of-requires-2-clause-few c = rw c.deref-3.ensures.value (rows_few (matrix_of_rows c.b.inside.k c.b.inside.n
+of-requires-2-clause-few c = rw c.deref-3.ensures.value (rows_few (matrix_of_rows c.b.inside.k
+    c.b.inside.n
     c.b.inside.rows.items) c.b.invariant)
 
 pub of-requires-clause-small : goal.of-requires-clause-small

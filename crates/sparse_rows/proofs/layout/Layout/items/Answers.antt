@@ -9,5 +9,9 @@ returns c =
     let items : List ℕ = c.self.inside.items.items in
     let here : length items ≡ sum_by length (lists_from starts items) = all_items starts items
     c.self.invariant in
-    let long : c.len.result ≡ length items = omega (arith, c.len.ensures, c.self.inside.items.ok.0) in
+    let long : c.len.result ≡ length items = omega (
+      arith,
+      c.len.ensures,
+      c.self.inside.items.ok.0,
+    ) in
     long ∙ here ∙ ap (sum_by length) c.self.view_is
