@@ -1,8 +1,10 @@
 -- What refuses a packet file.
-use Rattle.std.proofs.Common.{ℕ, ◌≤◌, Bool, List, Option, inl, inr, arith}
+use Rattle.std.proofs.Common.{ℕ, ◌≤◌, Bool, List, length, Option, inl, inr}
 use Rattle.sparse_rows.specs.Matrix.{Matrix}
 use Rattle.packet_file.specs.Header.{HeaderFields}
 use Rattle.packet_file.specs.Taking.{TakesAtMost}
+use Rattle.packet_file.specs.OneReading.{stop_by}
+use Rattle.packet_file.proofs.Readings.{stops_since}
 use Rattle.object_file.specs.Reception.{FailsAtPackets, RefusesDecode}
 use Rattle.fec_base.specs.Outside.{Hearing, Stream, stream}
 use Rattle.object_file.specs.Receiving.{RefusesOpening}
@@ -18,7 +20,7 @@ module _ (draws : Option ℕ) (early : Bool) (most : ℕ) (input now : Stream) (
       watch refusal
   opening_refused Memory (bytes, taken, short) refuses =
       inl (bytes, taken, short, keeps_same watch.told)
-  opening_refused (File fault) some (read, other) = inl (keeps_same watch.told, read, other)
+  opening_refused (File fault) some lacks = inl (keeps_same watch.told, lacks)
   opening_refused (Draws b) some (h, header, taken, first) =
       (h, header, taken, first, keeps_same watch.told)
   opening_refused Watch some refuses = absurd refuses
@@ -31,7 +33,7 @@ module _ (draws : Option ℕ) (early : Bool) (most : ℕ) (input now : Stream) (
       → RefusesDecode draws early most input now watch watch_now refusal
   behind_refused mid watch_now faults_mid h code opens later Memory fails = absurd fails
   behind_refused mid watch_now faults_mid h code opens later (File fault)
-      (packets, piece, stands, wanted, read, other) =
+      (packets, piece, stands, wanted, stops) =
       inr (
         h,
         code,
@@ -42,8 +44,8 @@ module _ (draws : Option ℕ) (early : Bool) (most : ℕ) (input now : Stream) (
           piece,
           stands,
           wanted,
-          (λ same. let (rose, short) = read same in (omega (arith, rose, later), short)),
-          other,
+          stops_since h most (length packets) (stream mid input.faults) (stream mid faults_mid) now
+              piece (stop_by fault) later stops,
         ),
       )
   behind_refused mid watch_now faults_mid h code opens later (Draws b) fails = absurd fails

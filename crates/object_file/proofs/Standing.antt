@@ -13,15 +13,9 @@ use Rattle.peeling.specs.Decoder.{Decoder}
 use Rattle.fec_session.specs.Forced.{RebuildsBy, RebuiltAreForced}
 use Rattle.fec_session.specs.Session.{TellsFront, rebuilt}
 use Rattle.packet_file.specs.Header.{HeaderFields}
-use Rattle.packet_file.specs.Faults.{HasPacketFault}
+use Rattle.packet_file.specs.OneReading.{StopsAt, stop_by}
+use Rattle.packet_file.proofs.Readings.{spelled_more, stops_since}
 use Rattle.packet_file.specs.Packets.{packet_bytes}
-use Rattle.packet_file.specs.declared.fault.FileFault.{FileFault}
-use Rattle.packet_file.specs.declared.fault.FileFault.TheVariants.{ShortHeader, BadMagic}
-use Rattle.packet_file.specs.declared.fault.FileFault.TheVariants.{BadVersion, BadCodec}
-use Rattle.packet_file.specs.declared.fault.FileFault.TheVariants.{BadReserved, Field, ShortPacket}
-use Rattle.packet_file.specs.declared.fault.FileFault.TheVariants.{NoSuchBlock, NoSuchSymbol}
-use Rattle.packet_file.specs.declared.fault.FileFault.TheVariants.{TooLarge, TooManyBlocks}
-use Rattle.packet_file.specs.declared.fault.FileFault.TheVariants.{TooManyPackets, ReadFault}
 use Rattle.object_file.specs.Received.{arrivals_of}
 use Rattle.packet_file.specs.Packets.{IsPacketOf, Packet, spelled}
 use Rattle.object_file.specs.Receiving.{AreCores, TakesPacket}
@@ -41,28 +35,6 @@ pub some_behind : (left mid now : Option (List ℕ)) → TakesSome left mid → 
     → TakesSome left now
 some_behind left mid now (bytes, taken) (more, after) =
     (bytes ++ more, Consumes-trans left mid now bytes more taken after)
-
--- what the packets spell, with one more
-spelled_more : (packets : List Packet) (p : Packet) → spelled (packets ++ p ∷ []) ≡ spelled packets
-    ++ packet_bytes p.0 p.1
-spelled_more packets p = flat_map-append (λ (a : Packet). packet_bytes a.0 a.1) packets (p ∷ [])
-    ∙ ap (λ l. spelled packets ++ l) (append-nil (packet_bytes p.0 p.1))
-
--- the input failed, or the bytes show a fault
-pub read_or_other : (fault : FileFault) → (fault ≡ ReadFault) ⊎ (fault ≢ ReadFault)
-read_or_other ReadFault = inl refl
-read_or_other (ShortHeader have) = inr (λ same. cc)
-read_or_other BadMagic = inr (λ same. cc)
-read_or_other (BadVersion version) = inr (λ same. cc)
-read_or_other (BadCodec number) = inr (λ same. cc)
-read_or_other BadReserved = inr (λ same. cc)
-read_or_other (Field field) = inr (λ same. cc)
-read_or_other (ShortPacket index have) = inr (λ same. cc)
-read_or_other (NoSuchBlock index sbn) = inr (λ same. cc)
-read_or_other (NoSuchSymbol index esi) = inr (λ same. cc)
-read_or_other (TooLarge limit) = inr (λ same. cc)
-read_or_other TooManyBlocks = inr (λ same. cc)
-read_or_other TooManyPackets = inr (λ same. cc)
 
 module _ (h : HeaderFields) (code : ℕ → Matrix) (early : Bool) (most : ℕ) where
   -- no packet was taken yet
@@ -203,23 +175,13 @@ module _ (h : HeaderFields) (code : ℕ → Matrix) (early : Bool) (most : ℕ) 
       stands_within forced left mid now told told_mid told_now packets decoders decoders_now p
           stands cores (omega (arith, few, counted)) wanted takes count front,
     )
-    packet_fails (File fault) (kept, read, other) = ⊎_elim
-        (λ (is : fault ≡ ReadFault).
-        let (rose, (some, took, short)) = read is in (
-          packets,
-          some,
-          stands_before left mid now told told_mid told_now packets some stands took kept,
-          wanted,
-          (λ same. (omega (arith, rose, later), short)),
-          λ apart. absurd (apart is),
-        ))
-        (λ (apart : fault ≢ ReadFault).
-        let (piece, taken, fails, ended) = other apart in (
-          packets,
-          piece,
-          stands_before left mid now told told_mid told_now packets piece stands taken kept,
-          wanted,
-          (λ same. absurd (apart same)),
-          λ _. (subst (λ i. HasPacketFault h i most piece fault) (sym counted) fails, ended),
-        ))
-        (read_or_other fault)
+    packet_fails (File fault) (kept, (piece, taken, stops)) = (
+      packets,
+      piece,
+      stands_before left mid now told told_mid told_now packets piece stands taken kept,
+      wanted,
+      stops_since h most (length packets) (stream left faults) (stream mid faults_mid)
+          (stream now faults_now) piece (stop_by fault) later
+          (subst (λ (i : ℕ). StopsAt h most i (stream mid faults_mid) (stream now faults_now) piece
+          (stop_by fault)) (sym counted) stops),
+    )

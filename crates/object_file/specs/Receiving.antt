@@ -8,8 +8,7 @@ use Rattle.fec_session.specs.Session.{ReceivesAt, TellsFront}
 use Rattle.fec_session.specs.declared.outcome.Outcome.{Outcome}
 use Rattle.packet_file.specs.Header.{HeaderFields, IsHeader, header_bytes, source_counts}
 use Rattle.packet_file.specs.Packets.{IsPacketOf, Packet, block_symbols, packet_bytes}
-use Rattle.packet_file.specs.Reading.{FailsAtHeader, FailsAtPacket, TakesFewer}
-use Rattle.packet_file.specs.declared.fault.FileFault.TheVariants.{ReadFault}
+use Rattle.packet_file.specs.OneReading.{LacksHeader, StopsBefore, stop_by}
 use Rattle.peeling.specs.Decoder.{Decoder}
 use Rattle.peeling.specs.Stands.{StandsFor}
 use Rattle.sparse_rows.specs.Matrix.{Matrix}
@@ -94,9 +93,7 @@ abbrev pub FailsAtOne : HeaderFields → ℕ → ℕ → Stream → Stream → L
 FailsAtOne h index most input input_now decoders decoders_now watch watch_now Memory = ⊥
 FailsAtOne h index most input input_now decoders decoders_now watch watch_now (File fault) =
     KeepsTold watch.told watch_now.told
-    × (fault ≡ ReadFault → Rose input.faults input_now.faults
-    × TakesFewer input.bytes input_now.bytes (4 + h.oti.symbol))
-    × (fault ≢ ReadFault → FailsAtPacket fault h index most input.bytes input_now.bytes)
+    × StopsBefore h most index input input_now (stop_by fault)
 FailsAtOne h index most input input_now decoders decoders_now watch watch_now (Draws b) = ⊥
 FailsAtOne h index most input input_now decoders decoders_now watch watch_now Watch =
     Rose watch.faults watch_now.faults × (index < most) × (packet : Packet) × (count : ℕ)
@@ -108,10 +105,7 @@ FailsAtOne h index most input input_now decoders decoders_now watch watch_now Wa
 -- many draws
 abbrev pub RefusesOpening : Option ℕ → Stream → Stream → Refusal → Type 0
 RefusesOpening draws input input_now Memory = ⊤
-RefusesOpening draws input input_now (File fault) =
-    (fault ≡ ReadFault → Rose input.faults input_now.faults
-    × TakesFewer input.bytes input_now.bytes 26)
-    × (fault ≢ ReadFault → FailsAtHeader fault input.bytes input_now.bytes)
+RefusesOpening draws input input_now (File fault) = LacksHeader input input_now (stop_by fault)
 RefusesOpening draws input input_now (Draws b) = (h : HeaderFields) × IsHeader h
     × Consumes input.bytes input_now.bytes (header_bytes h) × IsFirstOver h draws b
 RefusesOpening draws input input_now Watch = ⊥

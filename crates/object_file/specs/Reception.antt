@@ -4,12 +4,10 @@ use Rattle.std.specs.Prelude.{Bool, List, Option, [], length, true, ℕ, ◌+◌
 use Rattle.std.specs.Prelude.{◌≡◌, ◌≢◌, ◌≤◌, ◌⊎◌}
 use Rattle.fec_base.specs.Causes.{Rose}
 use Rattle.fec_base.specs.Told.{KeepsTold, Telling}
-use Rattle.packet_file.specs.Faults.{HasPacketFault}
 use Rattle.packet_file.specs.Header.{HeaderFields, IsHeader, header_bytes}
 use Rattle.packet_file.specs.Packets.{Packet}
-use Rattle.packet_file.specs.Reading.{FailsAtHeader, TakesFewer}
+use Rattle.packet_file.specs.OneReading.{LacksHeader, StopsAt, stop_by}
 use Rattle.packet_file.specs.declared.fault.FileFault.{FileFault}
-use Rattle.packet_file.specs.declared.fault.FileFault.TheVariants.{ReadFault}
 use Rattle.sparse_rows.specs.Matrix.{Matrix}
 use Rattle.object_file.specs.Codes.{IsFirstOver}
 use Rattle.fec_base.specs.Outside.{Hearing, Stream, stream}
@@ -35,9 +33,7 @@ LacksMemory draws early most input input_now watch watch_now =
 -- a header is refused, with nothing told: the input failed within it, or the bytes are none
 abbrev pub FailsBefore : Stream → Stream → Hearing → Hearing → FileFault → Type 0
 FailsBefore input input_now watch watch_now fault = KeepsTold watch.told watch_now.told
-    × (fault ≡ ReadFault → Rose input.faults input_now.faults
-    × TakesFewer input.bytes input_now.bytes 26)
-    × (fault ≢ ReadFault → FailsAtHeader fault input.bytes input_now.bytes)
+    × LacksHeader input input_now (stop_by fault)
 
 -- the packets behind a header are refused, where more was wanted: the input failed within one, the
 -- bytes are none, or the watch failed; what came before was told
@@ -48,10 +44,7 @@ FailsAtPackets h code early most input input_now watch watch_now (File fault) =
     (packets : List Packet) × (piece : List ℕ)
     × StandsAt h code early most input.bytes input_now.bytes watch.told watch_now.told packets piece
     × (early ≡ true → ¬ IsWhole h code packets)
-    × (fault ≡ ReadFault → Rose input.faults input_now.faults
-    × (length piece < 4 + h.oti.symbol))
-    × (fault ≢ ReadFault → HasPacketFault h (length packets) most piece fault
-    × (length piece < 4 + h.oti.symbol → IsAtEnd input_now.bytes))
+    × StopsAt h most (length packets) input input_now piece (stop_by fault)
 FailsAtPackets h code early most input input_now watch watch_now (Draws b) = ⊥
 FailsAtPackets h code early most input input_now watch watch_now Watch =
     Rose watch.faults watch_now.faults × (before : List Packet) × (last : Packet) × (count : ℕ)

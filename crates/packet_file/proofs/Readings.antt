@@ -19,7 +19,7 @@ spelled_more packets p = flat_map-append (λ (a : Packet). packet_bytes a.0 a.1)
     ∙ ap (λ l. spelled packets ++ l) (append-nil (packet_bytes p.0 p.1))
 
 -- what stops a reading stops one that began before
-stops_since : (h : HeaderFields) (most index : ℕ) (input mid now : Stream) (piece : List ℕ)
+pub stops_since : (h : HeaderFields) (most index : ℕ) (input mid now : Stream) (piece : List ℕ)
     (stop : Stop) → input.faults ≤ mid.faults → StopsAt h most index mid now piece stop
     → StopsAt h most index input now piece stop
 stops_since h most index input mid now piece End later stops = stops

@@ -5,11 +5,6 @@ use Rattle.packet_file.specs.Header.{HeaderFields}
 use Rattle.packet_file.specs.Faults.{HasHeaderFault, HasPacketFault}
 use Rattle.packet_file.specs.declared.fault.FileFault.{FileFault}
 
--- fewer bytes were taken than so many
-abbrev pub TakesFewer : Option (List ℕ) → Option (List ℕ) → ℕ → Type 0
-TakesFewer left left_now most = (bytes : List ℕ) × Consumes left left_now bytes
-    × (length bytes < most)
-
 -- the bytes that were taken are no header, with this fault; they are fewer than a header has only
 -- where the input ended
 abbrev pub FailsAtHeader : FileFault → Option (List ℕ) → Option (List ℕ) → Type 0

@@ -3,11 +3,10 @@ ghost use Rattle.std.specs.Prelude.{◌≡◌, ◌≢◌, ◌≤◌, ◌++◌, �
 ghost use Rattle.std.specs.Prelude.{OnErr};
 ghost use Rattle.std.specs.Io.KnownBytes.{Appends, Consumes};
 ghost use Rattle.fec_base.specs.Bytes.{AppendsFront};
-ghost use Rattle.fec_base.specs.Causes.{HasCause, Rose};
+ghost use Rattle.fec_base.specs.Causes.{HasCause};
 ghost use Rattle.oti_fields.specs.Fields.{codec_number};
 ghost use Rattle.packet_file.specs.Header.{IsHeader, header_bytes};
 ghost use Rattle.packet_file.specs.Faults.{HasHeaderFault};
-ghost use Rattle.packet_file.specs.Reading.{FailsAtHeader, TakesFewer};
 ghost use Rattle.packet_file.specs.Taking.{TakesAtMost};
 ghost use Rattle.fec_base.specs.Outside.{stream};
 ghost use Rattle.packet_file.specs.OneReading.{LacksHeader, stop_by};
@@ -32,11 +31,6 @@ pub fn read_header<S: Source>(src: &mut S) -> Result<Header, FileFault>
     ensures lacks { IfErr result (λ fault. LacksHeader
         (stream (S.left src.old) (S.faults src.old)) (stream (S.left src.new) (S.faults src.new))
         (stop_by fault)) }
-    ensures fault { IfErr result (λ fault. fault ≢ FileFault.ReadFault
-        → FailsAtHeader fault (S.left src.old) (S.left src.new)) }
-    ensures read { result ≡ Err FileFault.ReadFault → Rose (S.faults src.old) (S.faults src.new) }
-    ensures cut { result ≡ Err FileFault.ReadFault
-        → TakesFewer (S.left src.old) (S.left src.new) 26 }
     ensures taken { TakesAtMost (S.left src.old) (S.left src.new) 26 }
     ensures later { S.faults src.old ≤ S.faults src.new }
 {

@@ -3,10 +3,9 @@ ghost use Rattle.std.specs.Prelude.{◌≡◌, ◌≢◌, ◌<◌, ◌≤◌, �
 ghost use Rattle.std.specs.Prelude.{OnOk, OnErr, Ok, None};
 ghost use Rattle.std.specs.Io.KnownBytes.{Appends, Consumes, IsAtEnd};
 ghost use Rattle.fec_base.specs.Bytes.{AppendsFront};
-ghost use Rattle.fec_base.specs.Causes.{HasCause, Rose};
+ghost use Rattle.fec_base.specs.Causes.{HasCause};
 ghost use Rattle.packet_file.specs.Packets.{IsIdOf, packet_bytes};
 ghost use Rattle.packet_file.specs.Faults.{HasPacketFault};
-ghost use Rattle.packet_file.specs.Reading.{FailsAtPacket, TakesFewer};
 ghost use Rattle.packet_file.specs.Taking.{TakesAtMost};
 ghost use Rattle.fec_base.specs.Outside.{stream};
 ghost use Rattle.packet_file.specs.OneReading.{stop_by};
@@ -37,26 +36,14 @@ pub fn next_packet<S: Source>(
     ensures takes { IfOk result (λ found. IfSome found (λ id. TakesPacketOf h.now limit index
         (stream (S.left src.old) (S.faults src.old)) (stream (S.left src.new) (S.faults src.new))
         (id, drop 4 buf.new))) }
-    ensures ended { result ≡ Ok None → StopsBefore h.now limit index
+    ensures end { result ≡ Ok None → StopsBefore h.now limit index
         (stream (S.left src.old) (S.faults src.old)) (stream (S.left src.new) (S.faults src.new))
         End }
     ensures stops { IfErr result (λ fault. StopsBefore h.now limit index
         (stream (S.left src.old) (S.faults src.old)) (stream (S.left src.new) (S.faults src.new))
         (stop_by fault)) }
-    ensures packet { IfOk result
-        (λ found. IfSome found
-        (λ id. Consumes (S.left src.old) (S.left src.new) (packet_bytes id (drop 4 buf.new)))) }
     ensures spelled { IfOk result (λ found. IfSome found (λ id. buf.new
         ≡ packet_bytes id (drop 4 buf.new))) }
-    ensures id { IfOk result (λ found. IfSome found (IsIdOf h.now)) }
-    ensures within { IfOk result (λ found. IfSome found (λ id. index < limit)) }
-    ensures end { result ≡ Ok None → Consumes (S.left src.old) (S.left src.new) []
-        × IsAtEnd (S.left src.new) }
-    ensures fault { IfErr result (λ fault. fault ≢ FileFault.ReadFault
-        → FailsAtPacket fault h.now index limit (S.left src.old) (S.left src.new)) }
-    ensures read { result ≡ Err FileFault.ReadFault → Rose (S.faults src.old) (S.faults src.new) }
-    ensures cut { result ≡ Err FileFault.ReadFault
-        → TakesFewer (S.left src.old) (S.left src.new) (4 + h.now.oti.symbol) }
     ensures taken { OnErr result
         (TakesAtMost (S.left src.old) (S.left src.new) (4 + h.now.oti.symbol)) }
     ensures length { length buf.new ≡ length buf.old }

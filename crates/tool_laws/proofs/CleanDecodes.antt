@@ -13,6 +13,8 @@ use Rattle.packet_file.specs.Header.{HeaderFields, IsHeader, header_bytes}
 use Rattle.packet_file.specs.Laws.{HeaderIsOne, PacketIsOne}
 use Rattle.packet_file.specs.Packets.{IsPacketOf, Packet, spelled}
 use Rattle.packet_file.specs.Reading.{FailsAtHeader}
+use Rattle.packet_file.specs.OneReading.{IsBadPiece, LacksHeader, Stop, stop_by}
+use Rattle.packet_file.specs.OneReading.Stop.{End, Enough, Failed, Bad}
 use Rattle.packet_file.specs.declared.fault.FileFault.{FileFault}
 use Rattle.packet_file.specs.declared.fault.FileFault.TheVariants.{ReadFault}
 use Rattle.tool_base.specs.declared.status.Status.{Status}
@@ -22,7 +24,7 @@ use Rattle.fec_base.specs.Outside.{Hearing}
 use Rattle.tool_commands.specs.Outside.{Streams}
 use Rattle.tool_commands.specs.Outcomes.{if_done, outcome_status}
 use Rattle.object_file.specs.Received.{IsPacketFile}
-use Rattle.object_file.specs.Told.{HasCodes}
+use Rattle.object_file.specs.Told.{HasCodes, Opens, StandsAt}
 use Rattle.tool_commands.specs.DecodeRun.{Decided, DecodeDue, Decodes, IsDecodeRun}
 use Rattle.object_file.specs.Reception.{FailsBefore, FailsBehind}
 use Rattle.object_file.specs.Reception.{RefusesDecode}
@@ -35,7 +37,6 @@ use Rattle.tool_laws.proofs.NoFault.{header_taken, packet_taken}
 use Rattle.tool_laws.proofs.OneDecoding.{taken_of}
 use Rattle.tool_laws.proofs.OneReading.{length_header, same_fronts}
 use Rattle.tool_laws.proofs.Uncut.{due_or_memory, kept_of_none}
-use Rattle.object_file.proofs.Standing.{read_or_other}
 
 -- the blocks came out, and what is due of them was written and told
 abbrev ComesOut : Option ℕ → Bool → ℕ → Streams → Streams → Hearing → Hearing → Status → Type 0
@@ -62,21 +63,26 @@ module _ (header_one : HeaderIsOne) (packet_one : PacketIsOne) (h : HeaderFields
       (length_header other ∙ sym (length_header h)) (sym bytes_are ∙ file.bytes_are) in
       header_one other h header.bits file.header.bits parts.0
 
-  not_before : (fault : FileFault) → FailsBefore before.input after.input watch watch_now fault → ⊥
-  not_before fault (kept, read, other) = ⊎_elim
-      (λ (is : fault ≡ ReadFault). clean.reads (read is).0)
-      (λ (differs : fault ≢ ReadFault). header_taken header_one h file.header fault
-      (spelled packets) after.input.bytes
+  not_lacking : (stop : Stop) → LacksHeader before.input after.input stop → ⊥
+  not_lacking End lacks = absurd lacks
+  not_lacking Enough lacks = absurd lacks
+  not_lacking Failed lacks = clean.reads lacks.0
+  not_lacking (Bad fault) lacks = header_taken header_one h file.header fault (spelled packets)
+      after.input.bytes
       (subst (λ (l : Option (List ℕ)). FailsAtHeader fault l after.input.bytes) (known
-      ∙ ap (λ (l : List ℕ). Some l) file.bytes_are) (other differs)))
-      (read_or_other fault)
+      ∙ ap (λ (l : List ℕ). Some l) file.bytes_are) lacks)
 
-  not_behind : (fault : FileFault) → FailsBehind limit early most before.input after.input watch
-      watch_now (File fault) → ⊥
-  not_behind fault (other, code_now, mid, opens, (came, piece, stands, wanted, read, differs)) =
-      ⊎_elim
-      (λ (is : fault ≡ ReadFault). clean.reads (read is).0)
-      (λ (another : fault ≢ ReadFault).
+  not_before : (fault : FileFault) → FailsBefore before.input after.input watch watch_now fault → ⊥
+  not_before fault (kept, lacks) = not_lacking (stop_by fault) lacks
+
+  -- nor is a piece of it bad
+  not_bad : (fault : FileFault) (other : HeaderFields) (code_now : ℕ → Matrix)
+      (mid : Option (List ℕ)) (came : List Packet) (piece : List ℕ)
+      → Opens limit before.input.bytes mid other code_now
+      → StandsAt other code_now early most mid after.input.bytes watch.told watch_now.told came
+      piece
+      → IsBadPiece other most (length came) after.input piece fault → ⊥
+  not_bad fault other code_now mid came piece opens stands bad =
       let own : other ≡ h = own_header other mid opens.header opens.taken in
       let file_now : IsPacketFile other most packets bytes =
       subst (λ (k : HeaderFields). IsPacketFile k most packets bytes) (sym own) file in
@@ -95,10 +101,16 @@ module _ (header_one : HeaderIsOne) (packet_one : PacketIsOne) (h : HeaderFields
         piece,
         subst (λ (l : Option (List ℕ)). Consumes (Some (piece ++ rest)) l piece) (sym left_is)
             refl,
-        (differs another).0,
-        (differs another).1,
-      ))
-      (read_or_other fault)
+        bad.0,
+        bad.1,
+      )
+
+  not_behind : (fault : FileFault) → FailsBehind limit early most before.input after.input watch
+      watch_now (File fault) → ⊥
+  not_behind ReadFault (other, code_now, mid, opens, (came, piece, stands, wanted, stops)) =
+      clean.reads stops.0
+  not_behind fault (other, code_now, mid, opens, (came, piece, stands, wanted, stops)) =
+      not_bad fault other code_now mid came piece opens stands stops
 
   -- only memory may lack
   not_refused : (refusal : Refusal) → RefusesDecode limit early most before.input after.input watch

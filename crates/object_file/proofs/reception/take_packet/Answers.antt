@@ -1,8 +1,7 @@
 use Rattle.std.proofs.Common.{rules, ◌≡◌, ◌<◌, ◌+◌, Err, length, drop, sym, subst, arith, Option}
 use Rattle.std.proofs.Common.{IfSome, IfErr, Result, Bool}
-use Rattle.std.specs.Io.KnownBytes.{Consumes}
 use Rattle.oti_fields.specs.declared.identifier.PacketId.{PacketId}
-use Rattle.packet_file.specs.Packets.{IsIdOf, packet_bytes}
+use Rattle.packet_file.specs.OneReading.{TakesPacketOf}
 use Rattle.fec_base.specs.Outside.{hearing, stream}
 use Rattle.object_file.specs.Receiving.{FailsAtOne}
 use Rattle.object_file.specs.declared.causes.Refusal.{Refusal}
@@ -16,18 +15,16 @@ returns-clause-packet g c is =
     let h = c.args.header.now in
     let id = c.in-Some.id in
     let piece = c.next_packet.new.buf in
-    let of_file : IsIdOf h id = subst (λ (found : Option PacketId). IfSome found (IsIdOf h))
-    c.in-Some.is c.in_ok-id.ensures.id in
-    let taken : Consumes (left c.args.input.now) (left c.next_packet.new.src)
-    (packet_bytes id (drop 4 piece)) =
-    subst (λ (found : Option PacketId). IfSome found (λ id. Consumes (left c.args.input.now)
-    (left c.next_packet.new.src) (packet_bytes id (drop 4 piece)))) c.in-Some.is
-    c.in_ok-id.ensures.packet in
+    let input = stream (left c.args.input.now) (g.S.Source.faults c.args.input.now) in
+    let now_left = stream (left c.next_packet.new.src) (g.S.Source.faults c.next_packet.new.src) in
+    let one : TakesPacketOf h c.args.most c.args.index input now_left (id, drop 4 piece) =
+    subst (λ (found : Option PacketId). IfSome found (λ id. TakesPacketOf h c.args.most c.args.index
+    input now_left (id, drop 4 piece))) c.in-Some.is c.in_ok-id.ensures.takes in
     let long : length piece ≡ 4 + h.oti.symbol =
     omega (arith, c.next_packet.ensures.length, c.requires.piece) in (
       (id, drop 4 piece),
       took_packet (left c.args.input.now) (left c.next_packet.new.src) h c.args.receiver.now.cores
-          c.accept.new.self.cores id piece of_file taken long c.accept.ensures.received,
+          c.accept.new.self.cores id piece one.packet.id one.taken long c.accept.ensures.received,
       c.in_ok-accept.ensures.told,
     )
 
@@ -39,18 +36,13 @@ returns-in_err-accept-clause-refusal g c =
     let now = c.accept.new.self in
     let id = c.in-Some.id in
     let piece = c.next_packet.new.buf in
-    let of_file : IsIdOf h id = subst (λ (found : Option PacketId). IfSome found (IsIdOf h))
-    c.in-Some.is c.in_ok-id.ensures.id in
-    let taken : Consumes (left c.args.input.now) (left c.next_packet.new.src)
-    (packet_bytes id (drop 4 piece)) =
-    subst (λ (found : Option PacketId). IfSome found (λ id. Consumes (left c.args.input.now)
-    (left c.next_packet.new.src) (packet_bytes id (drop 4 piece)))) c.in-Some.is
-    c.in_ok-id.ensures.packet in
+    let input = stream (left c.args.input.now) (g.S.Source.faults c.args.input.now) in
+    let now_left = stream (left c.next_packet.new.src) (g.S.Source.faults c.next_packet.new.src) in
+    let one : TakesPacketOf h c.args.most c.args.index input now_left (id, drop 4 piece) =
+    subst (λ (found : Option PacketId). IfSome found (λ id. TakesPacketOf h c.args.most c.args.index
+    input now_left (id, drop 4 piece))) c.in-Some.is c.in_ok-id.ensures.takes in
     let long : length piece ≡ 4 + h.oti.symbol =
     omega (arith, c.next_packet.ensures.length, c.requires.piece) in
-    let within : c.args.index < c.args.most =
-    subst (λ (found : Option PacketId). IfSome found (λ id. c.args.index < c.args.most))
-    c.in-Some.is c.in_ok-id.ensures.within in
     let same : c.from_residual-in_err-accept.result ≡ Err Watch = search rules in
     subst (λ (x : Result Bool Refusal). IfErr x (FailsAtOne h c.args.index c.args.most
     (stream (left c.args.input.now) (g.S.Source.faults c.args.input.now))
@@ -59,10 +51,10 @@ returns-in_err-accept-clause-refusal g c =
     (hearing (g.W.Watch.told r.watch) (g.W.Watch.faults r.watch))
     (hearing (g.W.Watch.told now.watch) (g.W.Watch.faults now.watch)))) (sym same) (
       c.in_err-accept.ensures.cause.failed,
-      within,
+      one.within,
       (id, drop 4 piece),
       c.in_err-accept.field-0.0.told,
       took_packet (left c.args.input.now) (left c.next_packet.new.src) h r.cores now.cores id piece
-          of_file taken long c.accept.ensures.received,
+          one.packet.id one.taken long c.accept.ensures.received,
       c.in_err-accept.ensures.cut,
     )
