@@ -8,7 +8,8 @@ use Rattle.fec_session.specs.Session.{ReceivesAt, TellsFront}
 use Rattle.fec_session.specs.declared.outcome.Outcome.{Outcome}
 use Rattle.packet_file.specs.Header.{HeaderFields, IsHeader, header_bytes, source_counts}
 use Rattle.packet_file.specs.Packets.{IsPacketOf, Packet, block_symbols, packet_bytes}
-use Rattle.packet_file.specs.OneReading.{LacksHeader, StopsBefore, stop_by}
+use Rattle.packet_file.specs.OneReading.{LacksHeader, stop_by}
+use Rattle.packet_file.specs.OnePacket.{StopsBefore}
 use Rattle.peeling.specs.Decoder.{Decoder}
 use Rattle.peeling.specs.Stands.{StandsFor}
 use Rattle.sparse_rows.specs.Matrix.{Matrix}

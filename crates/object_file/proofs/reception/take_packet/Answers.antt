@@ -1,7 +1,7 @@
 use Rattle.std.proofs.Common.{rules, ◌≡◌, ◌<◌, ◌+◌, Err, length, drop, sym, subst, arith, Option}
 use Rattle.std.proofs.Common.{IfSome, IfErr, Result, Bool}
 use Rattle.oti_fields.specs.declared.identifier.PacketId.{PacketId}
-use Rattle.packet_file.specs.OneReading.{TakesPacketOf}
+use Rattle.packet_file.specs.OnePacket.{TakesPacketOf}
 use Rattle.fec_base.specs.Outside.{hearing, stream}
 use Rattle.object_file.specs.Receiving.{FailsAtOne}
 use Rattle.object_file.specs.declared.causes.Refusal.{Refusal}
