@@ -5,6 +5,7 @@ pub mod Cores
 mod ObjectRead
 pub mod Passing
 pub mod SourceBlocks
+mod Chained
 mod Taking
 pub mod Telling
 mod Written

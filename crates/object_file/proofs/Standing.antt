@@ -1,40 +1,26 @@
 -- Where a run stands, with one packet more.
-use Rattle.std.proofs.Common.{◌≡◌, ◌≢◌, ℕ, ◌<◌, ◌≤◌, Bool, true, List, [], ◌∷◌, ◌++◌, length}
-use Rattle.std.proofs.Common.{slice_index_or, Option, ⊎_elim, inl, inr, ◌⊎◌, refl, sym, ap, ◌∙◌}
+use Rattle.std.proofs.Common.{◌≡◌, ℕ, ◌<◌, Bool, true, List, [], ◌∷◌, ◌++◌, length}
+use Rattle.std.proofs.Common.{slice_index_or, Option, ⊎_elim, sym, ◌∙◌}
 use Rattle.std.proofs.Common.{subst, arith, append-nil, length-append, eq-or-lt_of_le}
 use Rattle.std.specs.Io.KnownBytes.{Consumes}
 use Rattle.std.proofs.KnownBytes.{Consumes-nil, Consumes-trans}
 use Rattle.std.proofs.lemmas.List.{take-append-le, take_all}
 use Rattle.std.proofs.lemmas.List.Elements.{All-nil, All-push}
-use Rattle.std.proofs.lemmas.List.Concat.{flat_map-append}
-use Rattle.fec_base.specs.Told.{GrowsTold, KeepsTold, Telling}
+use Rattle.fec_base.specs.Told.{GrowsTold, Telling}
 use Rattle.sparse_rows.specs.Matrix.{Matrix}
 use Rattle.peeling.specs.Decoder.{Decoder}
 use Rattle.fec_session.specs.Forced.{RebuildsBy, RebuiltAreForced}
 use Rattle.fec_session.specs.Session.{TellsFront, rebuilt}
 use Rattle.packet_file.specs.Header.{HeaderFields}
-use Rattle.packet_file.specs.OneReading.{StopsAt, stop_by}
-use Rattle.packet_file.proofs.Readings.{spelled_more, stops_since}
+use Rattle.packet_file.proofs.Readings.{spelled_more}
 use Rattle.packet_file.specs.Packets.{packet_bytes}
 use Rattle.object_file.specs.Received.{arrivals_of}
 use Rattle.packet_file.specs.Packets.{IsPacketOf, Packet, spelled}
 use Rattle.object_file.specs.Receiving.{AreCores, TakesPacket}
-use Rattle.object_file.specs.Receiving.{FailsAtOne}
-use Rattle.object_file.specs.Reception.{FailsAtPackets}
-use Rattle.object_file.specs.Taken.{TakesSome}
-use Rattle.fec_base.specs.Outside.{hearing, stream}
 use Rattle.object_file.specs.Told.{AreTaken, IsWhole, StandsAt, StandsWithin, TellsOf, told_places}
-use Rattle.object_file.specs.declared.causes.Refusal.{Refusal}
-use Rattle.object_file.specs.declared.causes.Refusal.TheVariants.{Memory, File, Draws, Watch}
 use Rattle.object_file.proofs.Cores.{new_is, new_len, new_matrix, old_stands}
-use Rattle.object_file.proofs.Telling.{keeps_same, tells_all, tells_front, tells_kept, tells_none}
+use Rattle.object_file.proofs.Telling.{tells_all, tells_front, tells_none}
 use Rattle.object_file.proofs.Telling.{told_places_more}
-
--- what was taken, and then more
-pub some_behind : (left mid now : Option (List ℕ)) → TakesSome left mid → TakesSome mid now
-    → TakesSome left now
-some_behind left mid now (bytes, taken) (more, after) =
-    (bytes ++ more, Consumes-trans left mid now bytes more taken after)
 
 module _ (h : HeaderFields) (code : ℕ → Matrix) (early : Bool) (most : ℕ) where
   -- no packet was taken yet
@@ -69,35 +55,6 @@ module _ (h : HeaderFields) (code : ℕ → Matrix) (early : Bool) (most : ℕ) 
     taken = Consumes-nil left;
     told_of = tells_none code h.oti.symbol told;
   }
-
-  -- and then bytes that are no packet of it, with nothing told
-  pub stands_before : (left mid now : Option (List ℕ))
-      (told told_mid told_now : Option (List Telling)) (packets : List Packet) (piece : List ℕ)
-      → StandsAt h code early most left mid told told_mid packets [] → Consumes mid now piece
-      → KeepsTold told_mid told_now → StandsAt h code early most left now told told_now packets
-      piece
-  stands_before left mid now told told_mid told_now packets piece stands taken kept = record {
-    packets_are = stands.packets_are;
-    taken = Consumes-trans left mid now (spelled packets) piece
-        (subst (Consumes left mid) (append-nil (spelled packets)) stands.taken) taken;
-    told_of = tells_kept code h.oti.symbol packets (told_places code packets) told told_mid told_now
-        stands.told_of kept;
-  }
-
-  -- some bytes were taken
-  pub taken_some : (left now : Option (List ℕ)) (told told_now : Option (List Telling))
-      (packets : List Packet) (rest : List ℕ) → StandsAt h code early most left now told told_now
-      packets rest → TakesSome left now
-  taken_some left now told told_now packets rest stands = (spelled packets ++ rest, stands.taken)
-
-  -- and then the input's end, with nothing told
-  pub stands_at_end : (left mid now : Option (List ℕ))
-      (told told_mid told_now : Option (List Telling)) (packets : List Packet)
-      → StandsAt h code early most left mid told told_mid packets [] → Consumes mid now []
-      → told_now ≡ told_mid → StandsAt h code early most left now told told_now packets []
-  stands_at_end left mid now told told_mid told_now packets stands nothing same =
-      stands_before left mid now told told_mid told_now packets [] stands nothing
-      (subst (KeepsTold told_mid) (sym same) (keeps_same told_mid))
 
   -- and then one packet more, of which is told whatever it makes known, or a front of it
   module _ (forced : RebuiltAreForced) (left mid now : Option (List ℕ))
@@ -150,38 +107,3 @@ module _ (h : HeaderFields) (code : ℕ → Matrix) (early : Bool) (most : ℕ) 
         (new_len mid now h code packets decoders decoders_now p cores takes) rebuilds
         (told_places code packets) told told_mid told_now stands.told_of count own.0 own.1 in
         record { packets_are = its; taken = bytes; part = part.0; told_of = part.1 }
-
-  -- one packet that is refused refuses the packets
-  module _ (forced : RebuiltAreForced) (left mid now : Option (List ℕ))
-      (told told_mid told_now : Option (List Telling)) (faults faults_mid faults_now told_faults
-      told_faults_mid told_faults_now : ℕ)
-      (packets : List Packet) (decoders decoders_now : List Decoder) (index : ℕ)
-      (stands : StandsAt h code early most left mid told told_mid packets [])
-      (cores : AreCores h code packets decoders) (counted : length packets ≡ index)
-      (wanted : early ≡ true → ¬ IsWhole h code packets)
-      (later : faults ≤ faults_mid) (told_later : told_faults ≤ told_faults_mid) where
-    pub packet_fails : (refusal : Refusal) → FailsAtOne h index most (stream mid faults_mid)
-        (stream now faults_now) decoders decoders_now (hearing told_mid told_faults_mid)
-        (hearing told_now told_faults_now) refusal
-        → FailsAtPackets h code early most (stream left faults) (stream now faults_now)
-        (hearing told told_faults) (hearing told_now told_faults_now) refusal
-    packet_fails Memory fails = absurd fails
-    packet_fails (Draws b) fails = absurd fails
-    packet_fails Watch (rose, few, p, count, takes, front) = (
-      omega (arith, rose, told_later),
-      packets,
-      p,
-      count,
-      stands_within forced left mid now told told_mid told_now packets decoders decoders_now p
-          stands cores (omega (arith, few, counted)) wanted takes count front,
-    )
-    packet_fails (File fault) (kept, (piece, taken, stops)) = (
-      packets,
-      piece,
-      stands_before left mid now told told_mid told_now packets piece stands taken kept,
-      wanted,
-      stops_since h most (length packets) (stream left faults) (stream mid faults_mid)
-          (stream now faults_now) piece (stop_by fault) later
-          (subst (λ (i : ℕ). StopsAt h most i (stream mid faults_mid) (stream now faults_now) piece
-          (stop_by fault)) (sym counted) stops),
-    )

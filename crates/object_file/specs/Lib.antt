@@ -12,3 +12,4 @@ pub mod Made
 pub mod Object
 pub mod Staged
 pub mod Receiving
+pub mod Takers

@@ -1,20 +1,18 @@
 -- How the packets of a file are received.
 use Rattle.std.specs.Io.KnownBytes.{Consumes}
 use Rattle.std.specs.Prelude.{Bool, List, Option, [], length, slice_index_or, suc, zero, ℕ, ⊤, ◌++◌}
-use Rattle.std.specs.Prelude.{◌+◌, ◌<◌, ◌∷◌, ◌≡◌, ◌≢◌}
-use Rattle.fec_base.specs.Causes.{Rose}
-use Rattle.fec_base.specs.Told.{KeepsTold, Telling}
-use Rattle.fec_session.specs.Session.{ReceivesAt, TellsFront}
+use Rattle.std.specs.Prelude.{◌<◌, ◌∷◌, ◌≡◌}
+use Rattle.fec_base.specs.Told.{Telling}
+use Rattle.fec_session.specs.Session.{ReceivesAt}
 use Rattle.fec_session.specs.declared.outcome.Outcome.{Outcome}
 use Rattle.packet_file.specs.Header.{HeaderFields, IsHeader, header_bytes, source_counts}
 use Rattle.packet_file.specs.Packets.{IsPacketOf, Packet, block_symbols, packet_bytes}
 use Rattle.packet_file.specs.OneReading.{LacksHeader, stop_by}
-use Rattle.packet_file.specs.OnePacket.{StopsBefore}
 use Rattle.peeling.specs.Decoder.{Decoder}
 use Rattle.peeling.specs.Stands.{StandsFor}
 use Rattle.sparse_rows.specs.Matrix.{Matrix}
 use Rattle.object_file.specs.Codes.{IsFirstOver, count_at}
-use Rattle.fec_base.specs.Outside.{Hearing, Stream}
+use Rattle.fec_base.specs.Outside.{Stream}
 use Rattle.object_file.specs.Received.{arrivals_of}
 use Rattle.object_file.specs.Told.{IsOver, Opens, StandsAt}
 use Rattle.object_file.specs.declared.causes.Refusal.{Refusal}
@@ -87,20 +85,6 @@ pub record IsReceived (draws : Option ℕ) (early : Bool) (most : ℕ)
   pub over : IsOver early left_now h code packets
   pub cores : AreCores h code packets decoders
   pub counted : count ≡ length packets
-
--- the next packet is refused, with nothing told; or the watch failed within what it makes known
-abbrev pub FailsAtOne : HeaderFields → ℕ → ℕ → Stream → Stream → List Decoder → List Decoder
-    → Hearing → Hearing → Refusal → Type 0
-FailsAtOne h index most input input_now decoders decoders_now watch watch_now Memory = ⊥
-FailsAtOne h index most input input_now decoders decoders_now watch watch_now (File fault) =
-    KeepsTold watch.told watch_now.told
-    × StopsBefore h most index input input_now (stop_by fault)
-FailsAtOne h index most input input_now decoders decoders_now watch watch_now (Draws b) = ⊥
-FailsAtOne h index most input input_now decoders decoders_now watch watch_now Watch =
-    Rose watch.faults watch_now.faults × (index < most) × (packet : Packet) × (count : ℕ)
-    × TakesPacket input.bytes input_now.bytes h decoders decoders_now packet
-    × ((d : Decoder) → TellsFront watch.told watch_now.told packet.0.sbn
-    (slice_index_or decoders_now packet.0.sbn d) count)
 
 -- a file isn't opened: the input failed, its bytes are no header, or a block's matrix takes too
 -- many draws

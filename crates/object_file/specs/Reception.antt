@@ -1,7 +1,7 @@
 -- Why a packet file is not received to the last.
-use Rattle.std.specs.Io.KnownBytes.{Consumes, IsAtEnd}
-use Rattle.std.specs.Prelude.{Bool, List, Option, [], length, true, ℕ, ◌+◌, ◌<◌}
-use Rattle.std.specs.Prelude.{◌≡◌, ◌≢◌, ◌≤◌, ◌⊎◌}
+use Rattle.std.specs.Io.KnownBytes.{Consumes}
+use Rattle.std.specs.Prelude.{Bool, List, Option, [], length, true, ℕ}
+use Rattle.std.specs.Prelude.{◌≡◌, ◌≤◌, ◌⊎◌}
 use Rattle.fec_base.specs.Causes.{Rose}
 use Rattle.fec_base.specs.Told.{KeepsTold, Telling}
 use Rattle.packet_file.specs.Header.{HeaderFields, IsHeader, header_bytes}
