@@ -30,7 +30,7 @@ returns-in-Err-clause-refusal g c =
     c.open.ensures.taken c.in-Err.ensures.refusal
 
 pub returns-in-Ok-take_packets-clause-received : goal.returns-in-Ok-take_packets-clause-received
-returns-in-Ok-take_packets-clause-received g c = 
+returns-in-Ok-take_packets-clause-received g c =
     (file_received g.W.Watch.told g.W.Watch.faults g.W.Watch.name c.rebuilt_symbols_are_forced.ensures
     c.args.draws c.args.early c.args.most c.args.watch c.in-Ok.opened.header
     c.in-Ok.opened.codes.items
