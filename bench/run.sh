@@ -1,153 +1,136 @@
 #!/bin/sh
-# Times the commands over large files by build/eperftool, which `make build` makes (EPERFTOOL names
-# another program), each beside `cat` of the same input in the same run.
+# Times the commands over large files: build/eperftool, which `make build` makes (EPERFTOOL names another program),
+# beside the plain program of bench/plain, which this script builds, in one run. The lines are those of measure.py.
+# `run.sh --quick` tries the script out, with a sixteenth of each input and one run of each program.
 set -eu
 cd "$(dirname "$0")/.."
 
-program=${EPERFTOOL:-$PWD/build/eperftool}
+program=${EPERFTOOL:-$PWD/build/eperftool} measure_py=$PWD/bench/measure.py plain=
 [ -x "$program" ] || { echo "There is no build/eperftool: run 'make build' first." >&2; exit 1; }
-command -v python3 > /dev/null || { echo "The times and the peak of memory are taken by python3." >&2; exit 1; }
+command -v python3 > /dev/null || { echo "The times and the peaks of memory are taken by python3." >&2; exit 1; }
+if command -v rustc > /dev/null; then
+    mkdir -p build
+    rustc --edition 2021 -O -o build/plain bench/plain/plain.rs
+    plain=$PWD/build/plain
+else
+    echo "There is no rustc: the column of the plain program is left out."
+fi
+
+turns=5 share=1
+case "${1:-}" in
+    '') ;;
+    --quick) turns=1 share=16 ;;
+    *) echo "usage: bench/run.sh [--quick]" >&2; exit 2 ;;
+esac
 
 here=$(mktemp -d)
 trap 'rm -rf "$here"' EXIT
 cd "$here"
 
-# A run that takes longer is stopped.
-seconds=300
+# measure INPUT COMMAND WORDS..: both programs. alone INPUT COMMAND WORDS..: eperftool, which alone has the command.
+# floor INPUT: what `cat` takes for the same bytes.
+measure() { given=$1; shift; python3 "$measure_py" "$turns" "$1" "$given" "$program" "$plain" "$@"; }
+alone() { given=$1; shift; python3 "$measure_py" "$turns" "$1" "$given" "$program" '' "$@"; }
+floor() { python3 "$measure_py" "$turns" cat "$1" cat ''; }
 
-# measure NAME BYTES INPUT OUTPUT WORDS..: runs the words, and prints the time, megabytes of the object a
-# second, the processor time, and the peak of memory, which is never below that of python3 itself, some
-# 14 MiB. Ends with status 1 where the run was stopped or ended with a status other than 0 or, undetermined, 8.
-measure() {
-    python3 - "$seconds" "$@" <<'END'
-import os, signal, subprocess, sys, time
+# decode INPUT: measured, and the decoded object is the one that was encoded.
+decode() { measure "$1" decode; cmp object made; }
 
-limit, name, size, given, made = sys.argv[1:6]
-limit, size = int(limit), int(size)
+# object BYTES: a file of so many random bytes, or of its share.
+object() { head -c "$(($1 / share))" /dev/urandom > object; }
 
+# encode WORDS..: the object's packet file.
+encode() { "$program" encode "$@" < object > packets 2> told; }
 
-def stop(number, frame):
-    child.kill()
+# lose WORDS..: the file `some` has the packets that aren't lost.
+lose() { "$program" lose "$@" < packets > some 2> told; }
 
-
-signal.signal(signal.SIGALRM, stop)
-with open(given, "rb") as source, open(made, "wb") as sink, open("report", "wb") as report:
-    start = time.monotonic()
-    child = subprocess.Popen(sys.argv[6:], stdin=source, stdout=sink, stderr=report)
-    signal.alarm(limit)
-    _, status, usage = os.wait4(child.pid, 0)
-    elapsed = time.monotonic() - start
-    signal.alarm(0)
-if os.WIFSIGNALED(status):
-    print(f"  {name:8} stopped after {limit} s")
-    sys.exit(1)
-status = os.WEXITSTATUS(status)
-if status not in (0, 8):
-    print(f"  {name:8} ended with status {status}")
-    sys.exit(1)
-speed = size / 1e6 / elapsed
-own = usage.ru_utime + usage.ru_stime
-peak = "" if name == "cat" else f", {usage.ru_maxrss / 1024:.0f} MiB at most"
-print(f"  {name:8}{elapsed:8.3f} s {speed:9.1f} MB/s, {own:7.3f} s of processor time{peak}")
-END
-}
-
-# lose SEED THOUSANDTHS FROM TO: the packet file FROM without the packets that are lost, each with this chance.
-lose() { "$program" lose --loss=even:"$2" --seed="$1" < "$3" > "$4" 2> report; }
-
-# object BYTES: a file of so many random bytes.
-object() { head -c "$1" /dev/urandom > object; }
-
-# back: the decoded object is the one that was encoded.
-back() { cmp object again; }
+echo 'job          proved    plain  ratio  elapsed   memory  plain'
+echo '                  s        s                s      MiB    MiB'
 
 echo '64 MiB, the defaults'
 object 67108864
-measure cat 67108864 object copy cat
-measure encode 67108864 object packets "$program" encode
-measure cat 67108864 packets copy cat
-measure decode 67108864 packets again "$program" decode && back
+encode
+floor object
+measure object encode
+floor packets
+decode packets
 echo '  its packet file of 96 MiB'
-measure lose 101000000 packets some "$program" lose --loss=even:200
-measure show 101000000 packets lines "$program" show
+alone packets lose --loss=even:200
+alone packets show
 echo '  a fifth of the packets lost'
-lose 2 200 packets some
-measure decode 67108864 some again "$program" decode && back
+lose --loss=even:200 --seed=2
+decode some
 
 echo '16 MiB, --symbol=16 --block=10000'
 object 16777216
-measure cat 16777216 object copy cat
-measure encode 16777216 object packets "$program" encode --symbol=16 --block=10000
-measure decode 16777216 packets again "$program" decode && back
+encode --symbol=16 --block=10000
+floor object
+measure object encode --symbol=16 --block=10000
+decode packets
 
-echo '40 MiB, --symbol=16 --block=10000 --max-n=15000, a fifth of the packets lost'
+echo '40 MiB, --symbol=16 --block=10000 --max-n=15000'
 object 41943040
-"$program" encode --symbol=16 --block=10000 --max-n=15000 < object > packets 2> report
-lose 1 200 packets some
-measure cat 41943040 some copy cat
-measure decode 41943040 some again "$program" decode && back
+encode --symbol=16 --block=10000 --max-n=15000
+floor object
+measure object encode --symbol=16 --block=10000 --max-n=15000
+echo '  a fifth of the packets lost'
+lose --loss=even:200
+floor some
+decode some
 
 echo 'one block of 5,000 source symbols of 1,024 bytes, --max-n=7500'
 object 5120000
-"$program" encode --symbol=1024 --block=5000 --max-n=7500 < object > packets 2> report
+encode --symbol=1024 --block=5000 --max-n=7500
 echo '  all packets, so that peeling alone gives it'
-measure decode 5120000 packets again "$program" decode && back
+decode packets
 echo '  31 % of the packets lost, so that elimination gives it'
-lose 1 310 packets some
-measure decode 5120000 some again "$program" decode && back
+lose --loss=even:310
+decode some
 
 echo 'one block of 20,000 source symbols of 64 bytes, --max-n=30000, 31 % of the packets lost'
 object 1280000
-"$program" encode --symbol=64 --block=20000 --max-n=30000 < object > packets 2> report
-lose 1 310 packets some
-measure decode 1280000 some again "$program" decode && back
+encode --symbol=64 --block=20000 --max-n=30000
+lose --loss=even:310
+decode some
 
-echo 'one block of 40,000 source symbols of one byte, --max-n=60000, the first 20,000 packets lost: a null word'
-object 40000
-"$program" encode --symbol=1 --block=40000 --max-n=60000 < object > packets 2> report
-"$program" lose --loss=first:20000 < packets > some 2> report
-measure decode 40000 some again "$program" decode || true
-
-echo 'the first null word as the unknowns grow: k source symbols of one byte, 1.5 k in all, the first k / 2 lost'
+echo 'the first null word: one block of k source symbols of one byte, 1.5 k in all, the first k / 2 packets lost'
 for k in 5000 10000 20000 40000; do
     object "$k"
-    "$program" encode --symbol=1 --block="$k" --max-n=$((k * 3 / 2)) < object > packets 2> report
-    "$program" lose --loss=first:$((k / 2)) < packets > some 2> report
+    encode --symbol=1 --block="$k" --max-n=$((k * 3 / 2))
+    lose --loss=first:$((k / share / 2))
     echo "  k = $k"
-    measure decode "$k" some again "$program" decode || true
+    measure some decode
 done
 
-echo '100 blocks of 20,000 source symbols of 16 bytes, --max-n=30000, all packets in a mixed order'
-object 32000000
-"$program" encode --symbol=16 --block=20000 --max-n=30000 < object > packets 2> report
-
-# mix PACKETS: the packets in a mixed order within each run of so many.
+# mix within|across: the packets in a mixed order within each block, or across all of them.
 mix() {
-    python3 - "$1" <<'END'
+    python3 - "$1" <<'PYTHON'
 import random, sys
 
 with open("packets", "rb") as file:
-    data = file.read()
-packets, count = [data[at : at + 20] for at in range(26, len(data), 20)], int(sys.argv[1])
-chance, mixed = random.Random(1), []
-for at in range(0, len(packets), count):
-    part = packets[at : at + count]
-    chance.shuffle(part)
-    mixed += part
+    head, data = file.read(26), file.read()
+packets = [data[at : at + 20] for at in range(0, len(data), 20)]
+random.Random(1).shuffle(packets)
+if sys.argv[1] == "within":
+    packets.sort(key=lambda packet: int.from_bytes(packet[:2], "big") >> 4)
 with open("some", "wb") as file:
-    file.write(data[:26] + b"".join(mixed))
-END
+    file.write(head + b"".join(packets))
+PYTHON
 }
+echo '100 blocks of 20,000 source symbols of 16 bytes, --max-n=30000, all packets in a mixed order'
+object 32000000
+encode --symbol=16 --block=20000 --max-n=30000
 echo '  block after block'
-mix 30000
-measure decode 32000000 some again "$program" decode && back
+mix within
+decode some
 echo '  across all blocks'
-mix 3000000
-measure decode 32000000 some again "$program" decode && back
+mix across
+decode some
 
-echo 'perf: runs of a decoder on a code of 20,000 source symbols, --n=30000; MB of source'
+echo 'perf: runs of a decoder on a code of 20,000 source symbols, --n=30000'
 : > nothing
 echo '  a hundred runs, symbols of 16 bytes'
-measure perf 32000000 nothing lines "$program" perf --k=20000 --n=30000 --symbol=16 --runs=100
+measure nothing perf --k=20000 --n=30000 --symbol=16 --runs=$((100 / share))
 echo '  five runs, symbols of 1,024 bytes'
-measure perf 102400000 nothing lines "$program" perf --k=20000 --n=30000 --symbol=1024 --runs=5
+measure nothing perf --k=20000 --n=30000 --symbol=1024 --runs=$((5 / share + (share > 1)))
