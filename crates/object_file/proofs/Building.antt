@@ -7,7 +7,7 @@ use Rattle.sparse_rows.specs.Matrix.{Matrix, IsCode}
 use Rattle.packet_file.specs.Header.{HeaderFields, source_counts, symbol_count}
 use Rattle.object_file.specs.BuiltCodes.{AreCodes, AreMatrices, HasSize, RefusesCode, RefusesCodes}
 use Rattle.object_file.specs.Codes.{HasMatrix, count_at, header_matrix}
-use Rattle.object_file.specs.declared.causes.Refusal.{Refusal}
+use Rattle.tool_base.specs.declared.causes.Refusal.{Refusal}
 
 -- the matrices are those of the blocks before block b
 pub record AreBuilt (h : HeaderFields) (draws : Option ℕ) (b : ℕ) (matrices : List Matrix) : Type 0

@@ -24,7 +24,7 @@ use Rattle.object_file.specs.Reception.{FailsAtPackets, RefusesDecode}
 use Rattle.object_file.specs.Takers.{FailsWithin, HasAll, TakesIn, refused_by}
 use Rattle.object_file.specs.Told.{IsOver, IsWhole, Opens, StandsAt}
 use Rattle.object_file.specs.declared.reception.Taking.{Taking}
-use Rattle.object_file.specs.declared.causes.Refusal.TheVariants as refusal
+use Rattle.tool_base.specs.declared.causes.Refusal.TheVariants as refusal
 use Rattle.object_file.proofs.Cores.{all_are_whole, cores_more, new_codes, new_cores}
 use Rattle.object_file.proofs.Cores.{whole_have_all}
 use Rattle.object_file.proofs.Refusing.{behind_refused}

@@ -5,8 +5,8 @@ use Rattle.std.specs.Io.KnownBytes.{Consumes}
 use Rattle.packet_file.specs.declared.fault.Limit.TheVariants.{Length}
 use Rattle.packet_file.specs.declared.fault.FileFault.TheVariants.{TooLarge}
 use Rattle.object_file.specs.Object.{RefusesObject}
-use Rattle.object_file.specs.declared.causes.Refusal.{Refusal}
-use Rattle.object_file.specs.declared.causes.Refusal.TheVariants.{File}
+use Rattle.tool_base.specs.declared.causes.Refusal.{Refusal}
+use Rattle.tool_base.specs.declared.causes.Refusal.TheVariants.{File}
 
 -- bytes that were taken, and are more than an object may have
 pub refuses_long : {T : Type 0} (result : Result T Refusal) (left left_now : Option (List ℕ))

@@ -9,8 +9,8 @@ use Rattle.object_file.specs.Reception.{FailsAtPackets, RefusesDecode}
 use Rattle.fec_base.specs.Outside.{Hearing, Stream, stream}
 use Rattle.object_file.specs.Receiving.{RefusesOpening}
 use Rattle.object_file.specs.Told.{Opens}
-use Rattle.object_file.specs.declared.causes.Refusal.{Refusal}
-use Rattle.object_file.specs.declared.causes.Refusal.TheVariants.{Memory, File, Draws, Watch}
+use Rattle.tool_base.specs.declared.causes.Refusal.{Refusal}
+use Rattle.tool_base.specs.declared.causes.Refusal.TheVariants.{Memory, File, Draws, Watch}
 use Rattle.object_file.proofs.Telling.{keeps_same}
 
 module _ (draws : Option ℕ) (early : Bool) (most : ℕ) (input now : Stream) (watch : Hearing) where

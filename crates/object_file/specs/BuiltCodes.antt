@@ -5,8 +5,8 @@ use Rattle.packet_file.specs.Header.{HeaderFields, source_counts, symbol_count}
 use Rattle.packet_file.specs.Packets.{block_symbols}
 use Rattle.sparse_rows.specs.Matrix.{IsCode, Matrix}
 use Rattle.object_file.specs.Codes.{IsFirstOver, count_at, header_matrix}
-use Rattle.object_file.specs.declared.causes.Refusal.{Refusal}
-use Rattle.object_file.specs.declared.causes.Refusal.TheVariants.{Draws, File, Memory, Watch}
+use Rattle.tool_base.specs.declared.causes.Refusal.{Refusal}
+use Rattle.tool_base.specs.declared.causes.Refusal.TheVariants.{Draws, File, Memory, Watch}
 
 -- each matrix is that of the blocks with its number of source symbols
 abbrev pub AreMatrices : HeaderFields → Option ℕ → List Matrix → Type 0

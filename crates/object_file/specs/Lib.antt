@@ -5,7 +5,6 @@ pub mod Codes
 pub mod File
 pub mod Received
 pub mod Told
-pub mod Refusals
 pub mod Reception
 pub mod BuiltCodes
 pub mod Made

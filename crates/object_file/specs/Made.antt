@@ -13,8 +13,8 @@ use Rattle.object_file.specs.Options.{header_for}
 use Rattle.object_file.specs.File.{block_start, padded}
 use Rattle.object_file.specs.declared.making.Made.{Made}
 use Rattle.object_file.specs.declared.options.EncodeOptions.{EncodeOptions}
-use Rattle.object_file.specs.declared.causes.Refusal.{Refusal}
-use Rattle.object_file.specs.declared.causes.Refusal.TheVariants.{Memory, File, Draws, Watch}
+use Rattle.tool_base.specs.declared.causes.Refusal.{Refusal}
+use Rattle.tool_base.specs.declared.causes.Refusal.TheVariants.{Memory, File, Draws, Watch}
 
 -- the file of an object is ready: its header, the codes of its blocks, and the object with its last
 -- source symbol padded; nothing waits yet

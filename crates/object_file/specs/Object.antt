@@ -4,8 +4,8 @@ use Rattle.std.specs.Io.KnownBytes.{Consumes}
 use Rattle.fec_base.specs.Causes.{Rose}
 use Rattle.packet_file.specs.declared.fault.Limit.TheVariants.{Length}
 use Rattle.packet_file.specs.declared.fault.FileFault.TheVariants.{TooLarge, ReadFault}
-use Rattle.object_file.specs.declared.causes.Refusal.{Refusal}
-use Rattle.object_file.specs.declared.causes.Refusal.TheVariants.{Memory, File}
+use Rattle.tool_base.specs.declared.causes.Refusal.{Refusal}
+use Rattle.tool_base.specs.declared.causes.Refusal.TheVariants.{Memory, File}
 
 -- memory lacked, or the input failed
 abbrev pub RefusesPiece : ℕ → ℕ → Refusal → Type 0

@@ -15,8 +15,8 @@ use Rattle.object_file.specs.Codes.{IsFirstOver, count_at}
 use Rattle.fec_base.specs.Outside.{Stream}
 use Rattle.object_file.specs.Received.{arrivals_of}
 use Rattle.object_file.specs.Told.{IsOver, Opens, StandsAt}
-use Rattle.object_file.specs.declared.causes.Refusal.{Refusal}
-use Rattle.object_file.specs.declared.causes.Refusal.TheVariants.{Draws, File, Memory, Watch}
+use Rattle.tool_base.specs.declared.causes.Refusal.{Refusal}
+use Rattle.tool_base.specs.declared.causes.Refusal.TheVariants.{Draws, File, Memory, Watch}
 use Rattle.fec_session.specs.declared.outcome.Outcome.TheVariants as outcome
 
 -- some bytes were taken from the front of the input, and stand behind those that were there

@@ -12,8 +12,8 @@ use Rattle.sparse_rows.specs.Matrix.{Matrix}
 use Rattle.object_file.specs.Codes.{IsFirstOver}
 use Rattle.fec_base.specs.Outside.{Hearing, Stream, stream}
 use Rattle.object_file.specs.Told.{IsOver, IsWhole, Opens, StandsAt, StandsWithin}
-use Rattle.object_file.specs.declared.causes.Refusal.{Refusal}
-use Rattle.object_file.specs.declared.causes.Refusal.TheVariants.{Draws, File, Memory, Watch}
+use Rattle.tool_base.specs.declared.causes.Refusal.{Refusal}
+use Rattle.tool_base.specs.declared.causes.Refusal.TheVariants.{Draws, File, Memory, Watch}
 
 -- at most a header's bytes were taken, and nothing was told
 abbrev pub TakesHeader : Option (List ℕ) → Option (List ℕ) → Option (List Telling)

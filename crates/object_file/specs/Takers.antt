@@ -11,8 +11,8 @@ use Rattle.sparse_rows.specs.Matrix.{Matrix}
 use Rattle.object_file.specs.Receiving.{AreCores}
 use Rattle.packet_intake.specs.declared.refusal.IntakeRefusal.{IntakeRefusal}
 use Rattle.packet_intake.specs.declared.refusal.IntakeRefusal.TheVariants as intake
-use Rattle.object_file.specs.declared.causes.Refusal.{Refusal}
-use Rattle.object_file.specs.declared.causes.Refusal.TheVariants.{File, Watch}
+use Rattle.tool_base.specs.declared.causes.Refusal.{Refusal}
+use Rattle.tool_base.specs.declared.causes.Refusal.TheVariants.{File, Watch}
 use Rattle.object_file.specs.declared.reception.Taking.{Taking}
 
 -- it takes in a packet: the decoder of its block receives it, the watch is told of what that makes

@@ -8,12 +8,11 @@ ghost use Rattle.object_file.specs.BuiltCodes.{AreBlockCodes, AreCodes, HasSize,
 ghost use Rattle.object_file.specs.BuiltCodes.{RefusesCodes};
 ghost use Rattle.object_file.specs.Codes.{count_at, header_matrix};
 
-use crate::Refusal;
 use fec_base::NoMemory;
 use packet_file::Header;
 use sparse_rows::Code;
 use std::alloc::Global;
-use tool_base::{BuildRefusal, block_code};
+use tool_base::{BuildRefusal, Refusal, block_code};
 
 /// The codes of the file's blocks, one for each number of source symbols that a block has: there
 /// are at most two. `Draws` names the first block whose code takes more draws than there may be.

@@ -7,7 +7,6 @@
 #![tactic(auto)]
 
 mod buffer;
-mod causes;
 mod file_codes;
 mod making;
 mod object;
@@ -16,7 +15,6 @@ mod reception;
 mod write;
 
 pub use buffer::Staging;
-pub use causes::Refusal;
 pub use file_codes::{block_codes, build_codes, find_code};
 pub use making::{Made, STAGING_LEN, make_file};
 pub use object::read_object;

@@ -5,10 +5,11 @@ ghost use Rattle.object_file.specs.Made.{IsMade, RefusesMaking};
 ghost use Rattle.object_file.specs.Options.{header_for};
 ghost use Rattle.object_file.specs.Asking.{encode_command};
 
-use crate::{EncodeOptions, Refusal, Staging, build_codes};
+use crate::{EncodeOptions, Staging, build_codes};
 use packet_file::Header;
 use sparse_rows::Code;
 use std::alloc::Global;
+use tool_base::Refusal;
 
 /// How many bytes wait for the output at most: room for many packets, which it takes as one piece.
 pub const STAGING_LEN: usize = 262_144;

@@ -3,16 +3,16 @@ ghost use Rattle.std.specs.Prelude.{◌≡◌, ◌<◌, ◌≤◌, ◌+◌, vec_
 ghost use Rattle.std.specs.Io.KnownBytes.{Consumes, IsAtEnd};
 ghost use Rattle.packet_file.specs.declared.fault.Limit.TheVariants.{Length};
 ghost use Rattle.packet_file.specs.declared.fault.FileFault.TheVariants.{TooLarge};
-ghost use Rattle.object_file.specs.declared.causes.Refusal.TheVariants.{Memory, File};
+ghost use Rattle.tool_base.specs.declared.causes.Refusal.TheVariants.{Memory, File};
 ghost use Rattle.packet_file.specs.Taking.{TakesAtMost};
 ghost use Rattle.object_file.specs.Taken.{most_taken};
 ghost use Rattle.object_file.specs.Object.{RefusesObject, RefusesPiece};
 ghost use Rattle.object_file.specs.Receiving.{TakesBehind};
 
-use crate::Refusal;
 use fec_base::{ReadFailed, Source, read_full};
 use packet_file::{FileFault, Limit};
 use std::alloc::Global;
+use tool_base::Refusal;
 
 // How many bytes are asked for at a time.
 const PIECE_LEN: usize = 65_536;

@@ -9,7 +9,7 @@ ghost use Rattle.fec_base.specs.Outside.{hearing, stream};
 ghost use Rattle.object_file.specs.Receiving.{IsReceived, RefusesOpening};
 ghost use Rattle.object_file.specs.Takers.{FailsWithin, HasAll, IsOfFile, TakesIn, refused_by};
 
-use crate::{Refusal, block_codes};
+use crate::block_codes;
 use fec_base::{NoMemory, Source, Steps, Tally, Watch};
 use fec_session::{Receiver, rebuilt_symbols_are_forced};
 use oti_fields::PacketId;
@@ -17,6 +17,7 @@ use packet_file::{Header, IDENTIFIER_LEN, read_header};
 use packet_intake::{IntakeRefusal, PacketTaker, TakerFailed, take_packets};
 use sparse_rows::Code;
 use std::alloc::Global;
+use tool_base::Refusal;
 
 /// A packet file whose packets were taken to the last.
 #[derive(Drop)]

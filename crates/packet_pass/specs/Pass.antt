@@ -1,11 +1,7 @@
--- One pass over a packet file: what was read of the input and what stands in the output, however it
--- ends.
+-- One pass over a packet file: what was read of the input and what was written, however it ends.
 use Rattle.std.specs.Prelude.{◌≡◌, ◌<◌, ◌⊎◌, ℕ, Bool, List, [], ◌∷◌, ◌++◌, length, take}
 use Rattle.std.specs.Prelude.{if◌then◌else◌}
 use Rattle.std.specs.List.{enumerate_from, flat_map}
-use Rattle.std.specs.Io.KnownBytes.{Appends, Keeps}
-use Rattle.fec_base.specs.Bytes.{AppendsFront}
-use Rattle.fec_base.specs.Causes.{Rose}
 use Rattle.fec_base.specs.Outside.{Stream}
 use Rattle.loss_patterns.specs.Keeps.{keeps}
 use Rattle.loss_patterns.specs.declared.kind.LossKind.{LossKind}
@@ -55,49 +51,38 @@ texts_from pass first packets =
 abbrev pub texts : Pass → List Packet → List ℕ
 texts pass packets = texts_from pass 0 packets
 
--- the whole input was a packet file of at most `most` packets, and its text was written
-pub record PassesWhole (pass : Pass) (most : ℕ) (input input_now output output_now : Stream)
-    (passed : Passed) : Type 0 where
+-- the whole input was a packet file of at most `most` packets, and this is its text
+pub record PassesWhole (pass : Pass) (most : ℕ) (input input_now : Stream) (passed : Passed)
+    (out : List ℕ) : Type 0 where
   pub header : HeaderFields
   pub packets : List Packet
   pub reads : ReadsFile most input input_now header packets End
-  pub written : Appends output.bytes output_now.bytes (head_of pass header ++ texts pass packets)
+  pub text : out ≡ head_of pass header ++ texts pass packets
   pub counted : passed.packets ≡ length packets
   pub kept : passed.kept ≡ kept_of (loss_in pass) (seed_in pass) passed.packets
 
--- the output failed within the text of the header, behind which nothing was taken
-abbrev pub CutsHead : Pass → ℕ → Stream → Stream → Stream → Stream → HeaderFields → Type 0
-CutsHead pass most input input_now output output_now h =
-    ReadsFile most input input_now h [] Enough
-    × AppendsFront output.bytes output_now.bytes (head_of pass h)
-    × Rose output.faults output_now.faults
+-- a front of the text of the header, behind which nothing was taken
+abbrev pub CutsHead : Pass → ℕ → Stream → Stream → HeaderFields → List ℕ → Type 0
+CutsHead pass most input input_now h out = ReadsFile most input input_now h [] Enough
+    × ((n : ℕ) × (n < length (head_of pass h)) × (out ≡ take n (head_of pass h)))
 
--- behind `head` the texts of these packets were written, and then the output failed within the text
--- of the next one
-abbrev pub CutsText : Pass → List ℕ → List Packet → Packet → Stream → Stream → Type 0
-CutsText pass head packets p output output_now = (n : ℕ)
-    × (n < length (text_of pass (length packets) p))
-    × Appends output.bytes output_now.bytes
-    (head ++ (texts pass packets ++ take n (text_of pass (length packets) p)))
-    × Rose output.faults output_now.faults
-
--- the output failed within the text of a packet, the last that was taken
-abbrev pub CutsPacket : Pass → ℕ → Stream → Stream → Stream → Stream → HeaderFields → Type 0
-CutsPacket pass most input input_now output output_now h = (before : List Packet) × (last : Packet)
+-- the texts of packets, and a front of the text of the next one, which is the last that was taken
+abbrev pub CutsPacket : Pass → ℕ → Stream → Stream → HeaderFields → List ℕ → Type 0
+CutsPacket pass most input input_now h out = (before : List Packet) × (last : Packet)
     × ReadsFile most input input_now h (before ++ last ∷ []) Enough
-    × CutsText pass (head_of pass h) before last output output_now
+    × ((n : ℕ) × (n < length (text_of pass (length before) last))
+    × (out ≡ head_of pass h
+    ++ (texts pass before ++ take n (text_of pass (length before) last))))
 
--- the pass ended before the end of the input: for want of memory before anything was written; in
--- the header; behind it, with the texts of the packets before; or since the output failed
-abbrev pub PassEnds : Pass → ℕ → Stream → Stream → Stream → Stream → PassRefusal → Type 0
-PassEnds pass most input input_now output output_now Memory =
-    Keeps output.bytes output_now.bytes
-    × ((h : HeaderFields) × ReadsFile most input input_now h [] Enough)
-PassEnds pass most input input_now output output_now (File fault) =
-    (Keeps output.bytes output_now.bytes × LacksHeader input input_now (stop_by fault))
+-- what a pass wrote that ended before the end of the input: nothing, for want of memory; the texts
+-- of the packets before a fault of the input; or what the output took before it failed
+abbrev pub PassEnds : Pass → ℕ → Stream → Stream → PassRefusal → List ℕ → Type 0
+PassEnds pass most input input_now Memory out =
+    (out ≡ []) × ((h : HeaderFields) × ReadsFile most input input_now h [] Enough)
+PassEnds pass most input input_now (File fault) out =
+    ((out ≡ []) × LacksHeader input input_now (stop_by fault))
     ⊎ ((h : HeaderFields) × (packets : List Packet)
     × ReadsFile most input input_now h packets (stop_by fault)
-    × Appends output.bytes output_now.bytes (head_of pass h ++ texts pass packets))
-PassEnds pass most input input_now output output_now Output = (h : HeaderFields)
-    × (CutsHead pass most input input_now output output_now h
-    ⊎ CutsPacket pass most input input_now output output_now h)
+    × (out ≡ head_of pass h ++ texts pass packets))
+PassEnds pass most input input_now Output out = (h : HeaderFields)
+    × (CutsHead pass most input input_now h out ⊎ CutsPacket pass most input input_now h out)

@@ -1,5 +1,5 @@
 -- Inside: how far a pass has come behind the header, packet by packet.
-use Rattle.std.specs.Prelude.{◌≡◌, ℕ, List, [], ◌∷◌, ◌++◌}
+use Rattle.std.specs.Prelude.{◌≡◌, ◌<◌, ℕ, List, [], ◌∷◌, ◌++◌, length, take}
 use Rattle.std.specs.Io.KnownBytes.{Appends}
 use Rattle.fec_base.specs.Bytes.{AppendsFront}
 use Rattle.fec_base.specs.Causes.{Rose}
@@ -9,7 +9,7 @@ use Rattle.packet_file.specs.Packets.{Packet}
 use Rattle.packet_file.specs.OneReading.{Reads, Stop, stop_by}
 use Rattle.packet_file.specs.OnePacket.{StopsBefore, TakesPacketOf}
 use Rattle.packet_file.specs.OneReading.Stop.{Enough}
-use Rattle.packet_pass.specs.Pass.{CutsText, loss_in, seed_in, text_of, texts}
+use Rattle.packet_pass.specs.Pass.{loss_in, seed_in, text_of, texts}
 use Rattle.packet_pass.specs.declared.kind.Pass.{Pass}
 use Rattle.packet_pass.specs.declared.kind.PassRefusal.{PassRefusal}
 use Rattle.packet_pass.specs.declared.kind.PassRefusal.TheVariants.{Memory, File, Output}
@@ -45,6 +45,14 @@ EndsAtPacket pass most h index input input_now output output_now Output = (p : P
     × AppendsFront output.bytes output_now.bytes (text_of pass index p)
     × Rose output.faults output_now.faults
 
+-- the texts of these packets were written, and then the output failed within the text of the next one
+abbrev pub CutsText : Pass → List Packet → Packet → Stream → Stream → Type 0
+CutsText pass packets p output output_now = (n : ℕ)
+    × (n < length (text_of pass (length packets) p))
+    × Appends output.bytes output_now.bytes
+    (texts pass packets ++ take n (text_of pass (length packets) p))
+    × Rose output.faults output_now.faults
+
 -- behind a header the pass ended early; it takes no memory there
 abbrev pub EndsEarly : Pass → ℕ → HeaderFields → Stream → Stream → Stream → Stream → PassRefusal
     → Type 0
@@ -53,4 +61,4 @@ EndsEarly pass most h input input_now output output_now (File fault) = (packets 
     × PassesPackets pass most h input input_now output output_now packets (stop_by fault)
 EndsEarly pass most h input input_now output output_now Output = (before : List Packet)
     × (last : Packet) × Reads h [] most input input_now (before ++ last ∷ []) Enough
-    × CutsText pass [] before last output output_now
+    × CutsText pass before last output output_now

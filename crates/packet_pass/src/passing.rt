@@ -4,7 +4,7 @@ ghost use Rattle.fec_base.specs.Outside.{stream};
 ghost use Rattle.packet_file.specs.Packets.{Packet};
 ghost use Rattle.packet_file.specs.OnePacket.{StopsBefore};
 ghost use Rattle.packet_file.specs.OneReading.Stop.{End};
-ghost use Rattle.packet_pass.specs.Pass.{PassEnds, PassesWhole};
+ghost use Rattle.packet_pass.specs.Written.{WritesEarly, WritesWhole};
 ghost use Rattle.packet_pass.specs.Ranges.{IsPass};
 ghost use Rattle.packet_pass.specs.Writing.{EndsAtPacket, EndsEarly, HasWritten, PassesOne};
 ghost use Rattle.packet_pass.specs.Writing.{PassesPackets};
@@ -33,12 +33,12 @@ pub fn pass<S: Source, K: Sink>(
 ) -> Result<Passed, PassRefusal>
     requires pass { IsPass pass }
     requires most { most ≤ 16777216 }
-    ensures whole { IfOk result (PassesWhole pass most
+    ensures whole { IfOk result (WritesWhole pass most
         (stream (S.left input.old) (S.faults input.old))
         (stream (S.left input.new) (S.faults input.new))
         (stream (K.held output.old) (K.faults output.old))
         (stream (K.held output.new) (K.faults output.new))) }
-    ensures ends { IfErr result (PassEnds pass most
+    ensures ends { IfErr result (WritesEarly pass most
         (stream (S.left input.old) (S.faults input.old))
         (stream (S.left input.new) (S.faults input.new))
         (stream (K.held output.old) (K.faults output.old))

@@ -8,3 +8,5 @@ pub mod ClapFind
 pub mod Fitting
 pub mod HeaderSeeds
 pub mod Readings
+pub mod Ends
+pub mod Endings

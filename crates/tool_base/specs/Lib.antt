@@ -8,4 +8,8 @@ pub mod Reading
 pub mod Status
 pub mod ExitCodes
 pub mod BlockCode
+pub mod Refusals
+pub mod Outside
+pub mod Written
+pub mod Ending
 pub mod Laws

@@ -7,21 +7,29 @@
 //! a block has the code of its codec, and that each status has its number and its text.
 #![tactic(auto)]
 
+mod causes;
 mod codes;
 mod command;
+mod ending;
+mod fault_report;
 mod given;
 mod laws;
 mod options;
 mod printing;
+mod report;
 mod status;
 mod table;
 mod words;
 
+pub use causes::Refusal;
 pub use codes::{block_code, shape_code};
 pub use command::{Command, Shape};
+pub use ending::{conclude, tell};
+pub use fault_report::refuse;
 pub use laws::what_is_given_is_read;
 pub use options::codec_word;
 pub use printing::{put_number, put_text};
+pub use report::put_numbered;
 pub use staircase::{BuildRefusal, Built};
 pub use status::Status;
 pub use words::read_words;

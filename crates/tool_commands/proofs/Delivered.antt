@@ -8,7 +8,7 @@ use Rattle.packet_file.specs.Header.{HeaderFields, header_bytes}
 use Rattle.tool_base.specs.declared.status.Status.{Status}
 use Rattle.tool_base.specs.declared.status.Status.TheVariants as status
 use Rattle.tool_commands.specs.EncodeRun.{EncodeDue, Encoded, ReadsObject, RefusesEncode}
-use Rattle.tool_commands.specs.Ending.{OrRefusal}
+use Rattle.tool_base.specs.Ending.{OrRefusal, Unwritten}
 use Rattle.tool_commands.specs.Ready.{FileDue}
 
 module _ (o : EncodeOptions) (input input_now : Stream) (h : HeaderFields)
@@ -26,7 +26,8 @@ module _ (o : EncodeOptions) (input input_now : Stream) (h : HeaderFields)
       subst₂ (λ (a b : List ℕ). Encoded o input input_now a b) (sym written) (sym told) encoded
 
   pub due_of : (s : Status) (out text : List ℕ) → FileDue h words s out text
-      → OrRefusal (EncodeDue o input input_now) (RefusesEncode o input input_now) s out text
+      → OrRefusal (EncodeDue o input input_now) (Unwritten (RefusesEncode o input input_now)) s out
+      text
   due_of status.Done out text due = inl (whole_of out text due)
   due_of status.Memory out text (part, told) = inl (_, _, encoded, part, told)
   due_of status.Usage out text due = absurd due

@@ -2,8 +2,6 @@ mod Blocks
 mod Delivered
 mod Determining
 mod Encoding
-mod Endings
-mod Ends
 mod Enumerated
 mod NoObject
 mod Objects

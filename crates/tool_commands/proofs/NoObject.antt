@@ -4,7 +4,7 @@ use Rattle.object_file.specs.Object.{RefusesObject}
 use Rattle.tool_commands.specs.EncodeRun.{RefusesEncode}
 use Rattle.fec_base.specs.Outside.{Stream}
 use Rattle.object_file.specs.declared.options.EncodeOptions.{EncodeOptions}
-use Rattle.object_file.specs.declared.causes.Refusal.{Refusal}
+use Rattle.tool_base.specs.declared.causes.Refusal.{Refusal}
 
 -- without an object there is no file
 pub refuses_input : (o : EncodeOptions) (input now : Stream) (refusal : Refusal)

@@ -1,7 +1,6 @@
 -- What a run does, by what its words ask for.
 use Rattle.std.proofs.Common.{◌≡◌, [], ℕ, inl, inr, refl, arith, Option, Some, None}
-use Rattle.std.proofs.KnownBytes.{Consumes-nil, Keeps-refl}
-use Rattle.std.specs.Io.KnownBytes.{Consumes}
+use Rattle.std.proofs.KnownBytes.{Appends-nil, Consumes-nil}
 use Rattle.packet_pass.specs.declared.kind.Pass.{Pass}
 use Rattle.packet_pass.specs.declared.kind.Pass.TheVariants.{Lose, Show}
 use Rattle.tool_base.specs.Status.{fault_text}
@@ -10,12 +9,12 @@ use Rattle.tool_base.specs.declared.command.Command.TheVariants as command
 use Rattle.tool_base.specs.declared.status.Status.{Status}
 use Rattle.tool_base.specs.declared.status.Status.TheVariants as status
 use Rattle.fec_base.specs.Outside.{Hearing, Stream}
-use Rattle.tool_commands.specs.Outside.{Streams}
+use Rattle.tool_base.specs.Outside.{Streams}
 use Rattle.tool_commands.specs.PassRun.{IsPassRun}
 use Rattle.tool_commands.specs.Run.{IsCommandRun, IsUsageRun}
-use Rattle.tool_commands.specs.Written.{IsTold}
-use Rattle.object_file.specs.declared.causes.Refusal.TheVariants.{Memory}
-use Rattle.tool_commands.proofs.Endings.{ends_refused}
+use Rattle.tool_base.specs.Written.{IsTold}
+use Rattle.tool_base.specs.declared.causes.Refusal.TheVariants.{Memory}
+use Rattle.tool_base.proofs.Endings.{ends_refused}
 use Rattle.tool_commands.proofs.PassRuns.{pass_refused}
 use Rattle.object_file.proofs.Telling.{keeps_same}
 
@@ -41,10 +40,8 @@ module _ (before : Streams) (report : Stream) where
       → IsTold (fault_text status.Memory) before.report report
       → IsPassRun pass most before after ended
   pass_out pass most ended is told =
-      let none : Consumes before.input.bytes before.input.bytes [] =
-      Consumes-nil before.input.bytes in
-      pass_refused pass most before after ended Memory is (Keeps-refl before.output.bytes, inl none)
-      ([], none) told
+      pass_refused pass most before after ended Memory is []
+      (refl, inl (Consumes-nil before.input.bytes)) (Appends-nil before.output.bytes) told
 
   -- and any command ends so
   pub runs_out : (watch : Hearing) (asked : Option Command) (ended : Status) → ended ≡ status.Memory

@@ -6,10 +6,10 @@ use Rattle.packet_file.specs.Header.{HeaderFields, source_counts}
 use Rattle.packet_file.specs.Packets.{Packet}
 use Rattle.sparse_rows.specs.Matrix.{Matrix}
 use Rattle.tool_base.specs.declared.status.Status.{Status}
-use Rattle.tool_commands.specs.Ending.{Due, EndsOrRefuses}
+use Rattle.tool_base.specs.Ending.{Due, EndsOrRefuses}
 use Rattle.tool_commands.specs.Outcomes.{decode_report, if_done, object_of, outcome_status}
 use Rattle.fec_base.specs.Outside.{Hearing, Stream}
-use Rattle.tool_commands.specs.Outside.{Streams}
+use Rattle.tool_base.specs.Outside.{Streams}
 use Rattle.fec_session.specs.Determines.{Determines}
 use Rattle.object_file.specs.Received.{arrivals_of}
 use Rattle.object_file.specs.Told.{IsOver, Opens, StandsAt}

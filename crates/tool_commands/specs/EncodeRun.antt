@@ -12,12 +12,12 @@ use Rattle.object_file.specs.Codes.{IsFirstOver}
 use Rattle.object_file.specs.File.{IsEncoding}
 use Rattle.object_file.specs.Options.{header_for}
 use Rattle.fec_base.specs.Outside.{Stream}
-use Rattle.tool_commands.specs.Outside.{Streams}
-use Rattle.object_file.specs.Refusals.{refusal_text}
-use Rattle.tool_commands.specs.Ending.{Due, EndsOrRefuses, IsPartOf}
+use Rattle.tool_base.specs.Outside.{Streams}
+use Rattle.tool_base.specs.Refusals.{refusal_text}
+use Rattle.tool_base.specs.Ending.{Due, EndsOrRefuses, IsPartOf}
 use Rattle.object_file.specs.declared.options.EncodeOptions.{EncodeOptions}
-use Rattle.object_file.specs.declared.causes.Refusal.{Refusal}
-use Rattle.object_file.specs.declared.causes.Refusal.TheVariants.{Draws, File, Memory, Watch}
+use Rattle.tool_base.specs.declared.causes.Refusal.{Refusal}
+use Rattle.tool_base.specs.declared.causes.Refusal.TheVariants.{Draws, File, Memory, Watch}
 use Rattle.tool_base.specs.declared.status.Status.TheVariants as status
 use Rattle.object_file.specs.Taken.{most_taken}
 

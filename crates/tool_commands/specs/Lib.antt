@@ -1,7 +1,4 @@
 pub mod Asking
-pub mod Outside
-pub mod Written
-pub mod Ending
 pub mod Outcomes
 pub mod EncodeRun
 pub mod DecodeRun

@@ -12,12 +12,12 @@ use Rattle.staircase.specs.Staircase.{CountedMatrix}
 use Rattle.tool_base.specs.BlockCode.{shape_matrix}
 use Rattle.tool_base.specs.Options.{codec_word}
 use Rattle.tool_base.specs.declared.status.Status.{Status}
-use Rattle.tool_commands.specs.Outside.{Streams}
-use Rattle.object_file.specs.Refusals.{refusal_text}
-use Rattle.tool_commands.specs.Ending.{Due, EndsOrRefuses, IsPartOf}
+use Rattle.tool_base.specs.Outside.{Streams}
+use Rattle.tool_base.specs.Refusals.{refusal_text}
+use Rattle.tool_base.specs.Ending.{Due, EndsOrRefuses, IsPartOf}
 use Rattle.tool_commands.specs.declared.options.PerfOptions.{PerfOptions}
-use Rattle.object_file.specs.declared.causes.Refusal.{Refusal}
-use Rattle.object_file.specs.declared.causes.Refusal.TheVariants.{Draws, File, Memory, Watch}
+use Rattle.tool_base.specs.declared.causes.Refusal.{Refusal}
+use Rattle.tool_base.specs.declared.causes.Refusal.TheVariants.{Draws, File, Memory, Watch}
 use Rattle.tool_base.specs.declared.status.Status.TheVariants as status
 
 -- how many bytes the symbols of the block take

@@ -3,13 +3,13 @@ use Rattle.std.specs.Prelude.{List, length, sum_by, ℕ, ◌++◌, ◌≡◌}
 use Rattle.fec_session.specs.Session.{ComeOut}
 use Rattle.fec_session.specs.declared.outcome.Outcome.{Outcome}
 use Rattle.object_file.specs.File.{encode_report, packets}
-use Rattle.object_file.specs.Refusals.{refusal_text}
-use Rattle.object_file.specs.declared.causes.Refusal.{Refusal}
-use Rattle.object_file.specs.declared.causes.Refusal.TheVariants.{Memory}
+use Rattle.tool_base.specs.Refusals.{refusal_text}
+use Rattle.tool_base.specs.declared.causes.Refusal.{Refusal}
+use Rattle.tool_base.specs.declared.causes.Refusal.TheVariants.{Memory}
 use Rattle.packet_file.specs.Header.{HeaderFields, header_bytes}
 use Rattle.peeling.specs.Decoder.{Decoder}
 use Rattle.tool_base.specs.declared.status.Status.TheVariants as status
-use Rattle.tool_commands.specs.Ending.{Due, IsPartOf}
+use Rattle.tool_base.specs.Ending.{Due, IsPartOf}
 use Rattle.tool_commands.specs.Outcomes.{decode_report, if_done, object_of, outcome_status}
 
 -- what is due of a file whose blocks have these codewords: its bytes and its report; or a part of

@@ -8,10 +8,10 @@ use Rattle.tool_base.specs.declared.status.Status.{Status}
 use Rattle.tool_commands.specs.DecodeRun.{IsDecodeRun}
 use Rattle.tool_commands.specs.EncodeRun.{IsEncodeRun}
 use Rattle.fec_base.specs.Outside.{Hearing}
-use Rattle.tool_commands.specs.Outside.{Streams}
+use Rattle.tool_base.specs.Outside.{Streams}
 use Rattle.tool_commands.specs.PassRun.{IsPassRun}
 use Rattle.tool_commands.specs.PerfRun.{IsPerfRun}
-use Rattle.tool_commands.specs.Written.{IsTold}
+use Rattle.tool_base.specs.Written.{IsTold}
 use Rattle.tool_base.specs.declared.command.Command.TheVariants as command
 use Rattle.tool_base.specs.declared.status.Status.TheVariants as status
 

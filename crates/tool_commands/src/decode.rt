@@ -9,21 +9,21 @@ ghost use Rattle.peeling.specs.Decoder.{Decoder};
 ghost use Rattle.fec_session.specs.declared.outcome.Outcome.{Outcome};
 ghost use Rattle.packet_file.specs.Header.{source_counts};
 ghost use Rattle.tool_commands.specs.DecodeRun.{IsDecodeRun};
-ghost use Rattle.tool_commands.specs.Ending.{EndsOrRefuses};
+ghost use Rattle.tool_base.specs.Ending.{EndsOrRefuses};
 ghost use Rattle.tool_commands.specs.Outcomes.{if_done, object_of, outcome_status, source_bytes};
 ghost use Rattle.tool_commands.specs.Ready.{CoresDue, IsMemory, OutcomesDue};
 ghost use Rattle.fec_base.specs.Outside.{hearing, stream};
-ghost use Rattle.tool_commands.specs.Outside.{seen};
+ghost use Rattle.tool_base.specs.Outside.{seen};
 ghost use Rattle.object_file.specs.Receiving.{HasSource, HaveSource, HoldsCount};
 ghost use Rattle.object_file.specs.Staged.{PassesOn};
 
-use crate::{Ended, conclude, outcome_status, put_decode_report, refuse, tell};
+use crate::{Ended, outcome_status, put_decode_report};
 use fec_base::{NoMemory, Sink, Source, Watch, WriteFailed};
 use fec_session::{Finished, Outcome, SourceBlock};
-use object_file::{Received, Refusal, STAGING_LEN, Staging, receive};
+use object_file::{Received, STAGING_LEN, Staging, receive};
 use packet_file::Header;
 use std::alloc::Global;
-use tool_base::Status;
+use tool_base::{Refusal, Status, conclude, refuse, tell};
 
 /// Decodes the packet file that the input is: its packets are received to the last, and then the
 /// object is written where each block has one source alone.

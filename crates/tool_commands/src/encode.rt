@@ -12,17 +12,16 @@ ghost use Rattle.object_file.specs.Made.{AreCodewords, IsMade, IsReadyToWrite};
 ghost use Rattle.object_file.specs.Options.{header_for};
 ghost use Rattle.object_file.specs.Asking.{encode_command};
 ghost use Rattle.fec_base.specs.Outside.{stream};
-ghost use Rattle.tool_commands.specs.Outside.{seen};
-ghost use Rattle.tool_commands.specs.Ending.{EndsBy, FrontOf};
+ghost use Rattle.tool_base.specs.Outside.{seen};
+ghost use Rattle.tool_base.specs.Ending.{EndsBy, FrontOf};
 ghost use Rattle.tool_commands.specs.Ready.{FileDue};
 
-use crate::{conclude, put_numbered, refuse, tell};
 use fec_base::{Sink, Source, WriteFailed};
-use object_file::{EncodeOptions, Made, Refusal, WriteRefusal, make_file, read_object, write_file};
+use object_file::{EncodeOptions, Made, WriteRefusal, make_file, read_object, write_file};
 use packet_file::Header;
 use sparse_rows::Code;
 use std::alloc::Global;
-use tool_base::Status;
+use tool_base::{Refusal, Status, conclude, put_numbered, refuse, tell};
 
 /// Encodes the input.
 pub fn encode<S: Source, K: Sink, R: Sink>(

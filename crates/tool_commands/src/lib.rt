@@ -7,19 +7,13 @@
 
 mod decode;
 mod encode;
-mod ending;
 mod options;
 mod outcome;
 mod pass_run;
 mod perf;
-mod refusal;
-mod report;
 mod top_call;
 
-pub use ending::{Ended, conclude, tell};
 pub use options::PerfOptions;
 pub use outcome::{outcome_status, put_decode_report};
 pub use pass_run::run_pass;
-pub use refusal::refuse;
-use report::put_numbered;
-pub use top_call::run;
+pub use top_call::{Ended, run};

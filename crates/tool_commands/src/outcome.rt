@@ -8,10 +8,9 @@ ghost use Rattle.tool_commands.specs.Outcomes.{block_line, block_lines, decode_r
 ghost use Rattle.tool_commands.specs.Outcomes.{is_contradicted, is_undetermined, outcome_status};
 ghost use Rattle.tool_commands.specs.Outcomes.{outcome_words, spaced};
 
-use crate::put_numbered;
 use fec_base::{Sink, Watch, WriteFailed};
 use fec_session::{Finished, Outcome};
-use tool_base::{Status, put_number, put_text};
+use tool_base::{Status, put_number, put_numbered, put_text};
 
 /// The status of a run whose blocks came out so: a block that no codeword fits decides, and then
 /// one that is undetermined.

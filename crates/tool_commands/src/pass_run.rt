@@ -1,19 +1,19 @@
 // The `lose` and the `show` of a packet file.
-ghost use Rattle.std.specs.Prelude.{◌≡◌, ◌≢◌, ◌≤◌, ◌⊎◌, ◌++◌, OnErr, OnOk, codes, decimal};
+ghost use Rattle.std.specs.Prelude.{◌≤◌, ◌++◌, OnErr, OnOk, codes, decimal};
 ghost use Rattle.std.specs.Io.KnownBytes.{Appends};
 ghost use Rattle.fec_base.specs.Bytes.{AppendsFront};
-ghost use Rattle.fec_base.specs.Causes.{HasCause, Rose};
+ghost use Rattle.fec_base.specs.Causes.{HasCause};
 ghost use Rattle.packet_pass.specs.Ranges.{IsPass};
-ghost use Rattle.tool_commands.specs.Outside.{seen};
+ghost use Rattle.tool_base.specs.Outside.{seen};
 ghost use Rattle.tool_commands.specs.PassRun.{IsPassRun, pass_report};
-ghost use Rattle.object_file.specs.Refusals.{numbered};
+ghost use Rattle.tool_base.specs.Refusals.{numbered};
 
-use crate::{put_numbered, refuse, tell};
 use fec_base::{Sink, Source, WriteFailed};
-use object_file::Refusal;
 use packet_pass::{Pass, PassRefusal, Passed, pass};
 use std::alloc::Global;
-use tool_base::{Status, put_number, put_text};
+use tool_base::{
+    Refusal, Status, conclude, put_number, put_numbered, put_text, refuse, tell,
+};
 
 /// Passes once over the packet file that the input is, of at most `most` packets, and writes it
 /// without the packets that are lost, or shows it. One packet is in memory at a time, and each
@@ -36,25 +36,10 @@ pub fn run_pass<S: Source, K: Sink, R: Sink>(
         (R.held report.new) (R.faults report.new)) result }
 {
     match pass(alloc, what, most, input, output) {
-        Ok(passed) => report_pass(report, what, passed),
+        Ok(passed) => conclude(put_pass_report(report, what, passed), Status::Done),
         Err(PassRefusal::Memory) => refuse(report, Refusal::Memory),
         Err(PassRefusal::File(fault)) => refuse(report, Refusal::File(fault)),
         Err(PassRefusal::Output) => tell(report, Status::WriteFault),
-    }
-}
-
-// Reports a pass to the end of the input, and says how the run ends.
-fn report_pass<R: Sink>(report: &mut R, what: Pass, passed: Passed) -> Status
-    ensures done { result ≡ Status.Done
-        → Appends (R.held report.old) (R.held report.new) (pass_report what passed) }
-    ensures cut { result ≡ Status.WriteFault
-        → AppendsFront (R.held report.old) (R.held report.new) (pass_report what passed)
-        × Rose (R.faults report.old) (R.faults report.new) }
-    ensures ends { (result ≡ Status.Done) ⊎ (result ≡ Status.WriteFault) }
-{
-    match put_pass_report(report, what, passed) {
-        Ok(()) => Status::Done,
-        Err(WriteFailed) => Status::WriteFault,
     }
 }
 

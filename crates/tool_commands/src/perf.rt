@@ -3,17 +3,16 @@ ghost use Rattle.std.specs.Prelude.{◌≡◌, ◌≤◌, IfOk, IfErr, Some};
 ghost use Rattle.tool_base.specs.BlockCode.{shape_matrix};
 ghost use Rattle.tool_base.specs.Ranges.{IsInRange};
 ghost use Rattle.fec_base.specs.Outside.{stream};
-ghost use Rattle.tool_commands.specs.Ending.{EndsOrRefuses};
+ghost use Rattle.tool_base.specs.Ending.{EndsOrRefuses};
 ghost use Rattle.tool_commands.specs.PerfRun.{PerfDue, RefusesPerf, block_bytes};
 ghost use Rattle.tool_commands.specs.Asking.{perf_command};
 
-use crate::{PerfOptions, refuse, tell};
+use crate::PerfOptions;
 use fec_base::Sink;
 use loss_runs::{RunsRefusal, write_runs};
-use object_file::Refusal;
 use packet_file::{FileFault, Limit};
 use std::alloc::Global;
-use tool_base::{BuildRefusal, Built, Status, codec_word, shape_code};
+use tool_base::{BuildRefusal, Built, Refusal, Status, codec_word, refuse, shape_code, tell};
 
 // The greatest number of bytes that the symbols of a block may take.
 const MAX_BLOCK_BYTES: u64 = 268_435_456;

@@ -2,19 +2,26 @@
 ghost use Rattle.std.specs.Prelude.{◌≡◌, ◌≢◌, Some};
 ghost use Rattle.tool_base.specs.Ranges.{IsInRange};
 ghost use Rattle.fec_base.specs.Outside.{hearing};
-ghost use Rattle.tool_commands.specs.Outside.{seen};
+ghost use Rattle.tool_base.specs.Outside.{seen};
 ghost use Rattle.tool_commands.specs.Run.{AsksNoDecode, IsCommandRun, IsNoDecode, IsRun};
 
 use crate::decode::decode;
 use crate::encode::encode;
 use crate::perf::perf;
-use crate::{Ended, PerfOptions, refuse, run_pass, tell};
+use crate::{PerfOptions, run_pass};
 use fec_base::{NoMemory, Sink, Source, Watch, Words};
 use loss_runs::RunPlan;
-use object_file::{EncodeOptions, Refusal};
+use object_file::EncodeOptions;
 use packet_pass::Pass;
 use std::alloc::Global;
-use tool_base::{Command, Status, read_words};
+use tool_base::{Command, Refusal, Status, read_words, refuse, tell};
+
+/// How a run ended, and the watch that was handed in.
+#[derive(Drop)]
+pub struct Ended<W = Box<dyn Watch>> {
+    pub status: Status,
+    pub watch: W,
+}
 
 /// Runs a command: the words say which, the input is read, the output and the report are written,
 /// and the watch comes back.

@@ -21,7 +21,7 @@ use Rattle.tool_base.specs.declared.status.Status.{Status}
 use Rattle.tool_base.specs.declared.status.Status.TheVariants as status
 use Rattle.object_file.specs.Codes.{IsFirstOver}
 use Rattle.fec_base.specs.Outside.{Hearing}
-use Rattle.tool_commands.specs.Outside.{Streams}
+use Rattle.tool_base.specs.Outside.{Streams}
 use Rattle.tool_commands.specs.Outcomes.{if_done, outcome_status}
 use Rattle.object_file.specs.Received.{IsPacketFile}
 use Rattle.object_file.specs.Told.{HasCodes, Opens, StandsAt}
@@ -30,8 +30,8 @@ use Rattle.object_file.specs.Reception.{FailsBefore, FailsBehind}
 use Rattle.object_file.specs.Reception.{RefusesDecode}
 use Rattle.tool_laws.specs.RoundTrip.{AreAmong, AreSent, LackNullWords}
 use Rattle.tool_laws.specs.RunLaws.{IsCleanDecode, NothingFails, OrMemory}
-use Rattle.object_file.specs.declared.causes.Refusal.{Refusal}
-use Rattle.object_file.specs.declared.causes.Refusal.TheVariants.{Draws, File, Memory, Watch}
+use Rattle.tool_base.specs.declared.causes.Refusal.{Refusal}
+use Rattle.tool_base.specs.declared.causes.Refusal.TheVariants.{Draws, File, Memory, Watch}
 use Rattle.tool_laws.proofs.DecodedFiles.{all_decode, chosen_right, words_decide}
 use Rattle.tool_laws.proofs.NoFault.{header_taken, packet_taken}
 use Rattle.tool_laws.proofs.OneDecoding.{taken_of}

@@ -17,15 +17,15 @@ use Rattle.tool_base.specs.declared.status.Status.{Status}
 use Rattle.tool_base.specs.declared.status.Status.TheVariants as status
 use Rattle.object_file.specs.Codes.{IsFirstOver}
 use Rattle.object_file.specs.Options.{header_for}
-use Rattle.tool_commands.specs.Outside.{Streams}
+use Rattle.tool_base.specs.Outside.{Streams}
 use Rattle.object_file.specs.Told.{HasCodes}
 use Rattle.fec_base.specs.Outside.{Stream}
 use Rattle.tool_commands.specs.EncodeRun.{EncodeDue, Encoded, IsEncodeRun, IsTooLarge}
 use Rattle.tool_commands.specs.EncodeRun.{RefusesEncode}
 use Rattle.tool_laws.specs.RunLaws.{NothingFails, OrMemory}
 use Rattle.object_file.specs.declared.options.EncodeOptions.{EncodeOptions}
-use Rattle.object_file.specs.declared.causes.Refusal.{Refusal}
-use Rattle.object_file.specs.declared.causes.Refusal.TheVariants.{Draws, File, Memory, Watch}
+use Rattle.tool_base.specs.declared.causes.Refusal.{Refusal}
+use Rattle.tool_base.specs.declared.causes.Refusal.TheVariants.{Draws, File, Memory, Watch}
 use Rattle.tool_laws.proofs.OneDecoding.{taken_all, taken_of}
 use Rattle.tool_laws.proofs.Uncut.{due_or_memory}
 

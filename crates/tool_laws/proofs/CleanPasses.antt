@@ -18,17 +18,16 @@ use Rattle.packet_pass.specs.declared.kind.Passed.{Passed}
 use Rattle.packet_pass.specs.declared.kind.PassRefusal.TheVariants as early
 use Rattle.tool_base.specs.declared.status.Status.{Status}
 use Rattle.tool_base.specs.declared.status.Status.TheVariants as status
-use Rattle.tool_commands.specs.Outside.{Streams}
-use Rattle.tool_commands.specs.PassRun.{CutsOutput, CutsReport, IsPassRun}
-use Rattle.tool_commands.specs.PassRun.{RefusesPass, pass_report}
+use Rattle.tool_base.specs.Outside.{Streams}
+use Rattle.tool_commands.specs.PassRun.{IsPassRun, PassDue, RefusesPass, pass_report}
 use Rattle.object_file.specs.Received.{IsPacketFile}
-use Rattle.object_file.specs.Refusals.{IsRefused, refusal_status}
 use Rattle.tool_laws.specs.RunLaws.{NothingFails, OrMemory, WritesText, counts_of}
-use Rattle.object_file.specs.declared.causes.Refusal.{Refusal}
-use Rattle.object_file.specs.declared.causes.Refusal.TheVariants.{Draws, File, Memory, Watch}
+use Rattle.tool_base.specs.declared.causes.Refusal.{Refusal}
+use Rattle.tool_base.specs.declared.causes.Refusal.TheVariants.{Draws, File, Memory, Watch}
 use Rattle.tool_laws.proofs.NoFault.{header_taken, packet_taken}
 use Rattle.tool_laws.proofs.OneDecoding.{taken_all, taken_of}
 use Rattle.tool_laws.proofs.OneReading.{length_header, reading_one, same_fronts}
+use Rattle.tool_laws.proofs.Uncut.{all_or_memory}
 
 module _ (header_one : HeaderIsOne) (packet_one : PacketIsOne) (pass : Pass) (h : HeaderFields)
     (packets : List Packet) (bytes : List ℕ) (most : ℕ) (before after : Streams)
@@ -80,32 +79,22 @@ module _ (header_one : HeaderIsOne) (packet_one : PacketIsOne) (pass : Pass) (h 
   not_behind fault other came read = not_bad fault other came read
 
   -- only memory may lack
-  not_refused : (refusal : Refusal) → RefusesPass pass most before after refusal → refusal ≡ Memory
-  not_refused Memory refuses = refl
-  not_refused (File fault) (inl (kept, lacks)) = absurd (not_in_header (stop_by fault) lacks)
-  not_refused (File fault) (inr (other, came, read, written)) =
+  not_refused : (refusal : Refusal) (out : List ℕ)
+      → RefusesPass pass most before.input after.input refusal out → refusal ≡ Memory
+  not_refused Memory out refuses = refl
+  not_refused (File fault) out (inl (none, lacks)) = absurd (not_in_header (stop_by fault) lacks)
+  not_refused (File fault) out (inr (other, came, read, written)) =
       absurd (not_behind fault other came read)
-  not_refused (Draws b) refuses = absurd refuses
-  not_refused Watch refuses = absurd refuses
-
-  -- and nothing is cut
-  no_output : PassEnds pass most before.input after.input before.output after.output early.Output
-      → ⊥
-  no_output (other, inl (read, front, rose)) = clean.writes rose
-  no_output (other, inr (came, p, read, (n, some_left, cut, rose))) = clean.writes rose
-
-  not_cut : CutsOutput pass most before after ⊎ CutsReport pass most before after → ⊥
-  not_cut cut = ⊎_elim
-      (λ (c : CutsOutput pass most before after). no_output c.ends)
-      (λ (c : CutsReport pass most before after). clean.reports c.rose)
-      cut
+  not_refused (Draws b) out refuses = absurd refuses
+  not_refused Watch out refuses = absurd refuses
 
   -- a pass to the end is one over this header and these packets
-  whole : (passed : Passed)
-      → PassesWhole pass most before.input after.input before.output after.output passed
-      → Appends before.report.bytes after.report.bytes (pass_report pass passed)
+  whole : (passed : Passed) (out text : List ℕ)
+      → PassesWhole pass most before.input after.input passed out → text ≡ pass_report pass passed
+      → Appends before.output.bytes after.output.bytes out
+      → Appends before.report.bytes after.report.bytes text
       → WritesText pass h packets before after
-  whole passed w told =
+  whole passed out text w text_is written told =
       let other : HeaderFields = w.header in
       let came : List Packet = w.packets in
       let stands = w.reads.reads in
@@ -122,7 +111,7 @@ module _ (header_one : HeaderIsOne) (packet_one : PacketIsOne) (pass : Pass) (h 
       } in
       let (header_is, packets_are) = reading_one header_one packet_one other h most most came
       packets bytes file_now file in
-      let text : head_of pass other ++ texts pass came ≡ head_of pass h ++ texts pass packets =
+      let own : head_of pass other ++ texts pass came ≡ head_of pass h ++ texts pass packets =
       ap₂ (λ (k : HeaderFields) (l : List Packet). head_of pass k ++ texts pass l) header_is
       packets_are in
       let count : passed.packets ≡ length packets = w.counted ∙ ap length packets_are in
@@ -132,19 +121,37 @@ module _ (header_one : HeaderIsOne) (packet_one : PacketIsOne) (pass : Pass) (h 
       ap₂ (λ (n k : ℕ). record { packets = n; kept = k }) count kept in
       record {
         ended = stands.stopped.1;
-        written = subst (Appends before.output.bytes after.output.bytes) text w.written;
-        reported = subst (λ (p : Passed). Appends before.report.bytes after.report.bytes
-            (pass_report pass p)) same told;
+        written = subst (Appends before.output.bytes after.output.bytes) (w.text ∙ own) written;
+        reported = subst (Appends before.report.bytes after.report.bytes)
+            (text_is ∙ ap (pass_report pass) same) told;
       }
 
-  -- so it ends well, or memory lacks
+  -- what is due is the text
+  done_or_not : (ended : Status) (out text : List ℕ)
+      → PassDue pass most before.input after.input ended out text
+      → (ended ≡ status.Done) × ((passed : Passed)
+      × PassesWhole pass most before.input after.input passed out × (text ≡ pass_report pass passed))
+  done_or_not status.Done out text due = (refl, due)
+  done_or_not status.Memory out text due = absurd due
+  done_or_not status.Usage out text due = absurd due
+  done_or_not status.ReadFault out text due = absurd due
+  done_or_not status.WriteFault out text due = absurd due
+  done_or_not status.Malformed out text due = absurd due
+  done_or_not status.Draws out text due = absurd due
+  done_or_not status.Limit out text due = absurd due
+  done_or_not status.Undetermined out text due = absurd due
+  done_or_not status.NoCodeword out text due = absurd due
+  done_or_not status.WatchFault out text due = absurd due
+
+  -- so it is written, or memory lacks
   pub comes_through : (ended : Status) → IsPassRun pass most before after ended
       → OrMemory ended ((ended ≡ status.Done) × WritesText pass h packets before after)
   comes_through ended run = ⊎_elim
-      (λ (refused : IsRefused ended). let is = run.refused refused in
-      inl (is.1 ∙ ap refusal_status (not_refused is.0 is.2)))
-      (λ other. ⊎_elim
-      (λ (done : ended ≡ status.Done). let is = run.done done in inr (done, whole is.0 is.1 is.2))
-      (λ (cut : ended ≡ status.WriteFault). absurd (not_cut (run.cut cut)))
-      other)
-      run.ends
+      (λ (memory : ended ≡ status.Memory). inl memory)
+      (λ stands. let (out, text, due, written, told) = stands in
+      let (done, (passed, w, text_is)) = done_or_not ended out text due in
+      inr (done, whole passed out text w text_is written told))
+      (all_or_memory before.output after.output before.report after.report clean.writes
+      clean.reports ended (PassDue pass most before.input after.input)
+      (RefusesPass pass most before.input after.input)
+      (PassEnds pass most before.input after.input early.Output) not_refused run)

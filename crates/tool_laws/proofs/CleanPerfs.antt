@@ -6,13 +6,13 @@ use Rattle.staircase.specs.Staircase.{CountedMatrix}
 use Rattle.tool_base.specs.BlockCode.{shape_matrix}
 use Rattle.tool_base.specs.declared.status.Status.{Status}
 use Rattle.tool_base.specs.declared.status.Status.TheVariants as status
-use Rattle.tool_commands.specs.Outside.{Streams}
+use Rattle.tool_base.specs.Outside.{Streams}
 use Rattle.tool_commands.specs.PerfRun.{IsPerfRun, PerfDue, RefusesPerf, Tried, block_bytes}
 use Rattle.tool_commands.specs.PerfRun.{tried_text}
 use Rattle.tool_laws.specs.RunLaws.{NothingFails, OrMemory}
 use Rattle.tool_commands.specs.declared.options.PerfOptions.{PerfOptions}
-use Rattle.object_file.specs.declared.causes.Refusal.{Refusal}
-use Rattle.object_file.specs.declared.causes.Refusal.TheVariants.{Draws, File, Memory, Watch}
+use Rattle.tool_base.specs.declared.causes.Refusal.{Refusal}
+use Rattle.tool_base.specs.declared.causes.Refusal.TheVariants.{Draws, File, Memory, Watch}
 use Rattle.tool_laws.proofs.Uncut.{due_or_memory}
 
 -- within the limits only memory may lack

@@ -14,9 +14,9 @@ use Rattle.tool_base.specs.declared.status.Status.TheVariants as status
 use Rattle.object_file.specs.File.{IsEncoding}
 use Rattle.object_file.specs.Options.{header_for}
 use Rattle.fec_base.specs.Outside.{Hearing, Stream}
-use Rattle.tool_commands.specs.Outside.{Streams}
+use Rattle.tool_base.specs.Outside.{Streams}
 use Rattle.tool_commands.specs.EncodeRun.{EncodeDue, Encoded, IsEncodeRun, RefusesEncode}
-use Rattle.tool_commands.specs.Ending.{IsRefusal, OrRefusal}
+use Rattle.tool_base.specs.Ending.{Unwritten}
 use Rattle.object_file.specs.Received.{IsPacketFile}
 use Rattle.tool_laws.specs.RoundTrip.{AreSent}
 use Rattle.tool_laws.specs.RunLaws.{IsCleanDecode, OrMemory}
@@ -25,18 +25,7 @@ use Rattle.tool_laws.proofs.CleanDecodes.{all_decoded}
 use Rattle.tool_laws.proofs.DecodedFiles.{file_sent}
 use Rattle.tool_laws.proofs.OneDecoding.{taken_all}
 use Rattle.tool_laws.proofs.SentPackets.{list_long, packet_list}
-use Rattle.tool_laws.proofs.Uncut.{no_refusal}
-
--- what is due at Done is a packet file
-done_due : (o : EncodeOptions) (input now : Stream) (out text : List ℕ)
-    → OrRefusal (EncodeDue o input now) (RefusesEncode o input now) status.Done out text
-    → Encoded o input now out text
-done_due o input now out text due = ⊎_elim
-    (λ (e : Encoded o input now out text). e)
-    (λ (r : IsRefusal (RefusesEncode o input now) status.Done out text).
-    let (none, refusal, is, cause, named) = r in
-    absurd (no_refusal refusal is))
-    due
+use Rattle.tool_laws.proofs.Uncut.{done_due}
 
 -- what stands where nothing stood is what was appended
 pub appended_all : (now : List ℕ) (file : List ℕ) (old new : Option (List ℕ)) → old ≡ Some []
@@ -52,8 +41,9 @@ encoding_of : (o : EncodeOptions) (first last : Streams) (object file : List ℕ
     → (text : List ℕ) × IsEncoding (header_for o (length object)) o.shape.draws object file text
 encoding_of o first last object file encodes input output made =
     let (made_file, text, is_due, written, told) = encodes.ends.done refl in
-    let e : Encoded o first.input last.input made_file text = done_due o first.input last.input
-    made_file text is_due in
+    let e : Encoded o first.input last.input made_file text =
+    done_due (EncodeDue o first.input last.input) (Unwritten (RefusesEncode o first.input
+    last.input)) made_file text is_due in
     let object_is : e.object ≡ object = taken_all object e.object last.input.bytes
     (subst (λ (l : Option (List ℕ)). Consumes l last.input.bytes e.object) input e.reads.read)
     e.reads.ended in

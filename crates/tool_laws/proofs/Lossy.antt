@@ -16,6 +16,7 @@ use Rattle.packet_pass.specs.Pass.{kept_in, texts_from}
 use Rattle.packet_pass.specs.declared.kind.Pass.TheVariants.{Lose}
 use Rattle.sparse_rows.specs.Laws.{NullWordHoldsSource}
 use Rattle.tool_base.specs.declared.status.Status.TheVariants as status
+use Rattle.tool_commands.specs.PassRun.{PassDue, RefusesPass}
 use Rattle.tool_laws.specs.LossLaws.{LossLeavesPacketFile, LostIsNeverDecodedWrong}
 use Rattle.tool_laws.specs.RoundTrip.{AreAmong, LackNullWords}
 use Rattle.tool_laws.specs.RunLaws.{IsCleanDecode}
@@ -23,6 +24,7 @@ use Rattle.tool_laws.proofs.CleanDecodes.{chosen_decoded}
 use Rattle.tool_laws.proofs.EncodedThenDecoded.{appended_all, encoded_file}
 use Rattle.tool_laws.proofs.OneDecoding.{taken_all}
 use Rattle.tool_laws.proofs.OneReading.{reading_one}
+use Rattle.tool_laws.proofs.Uncut.{done_due}
 
 -- one item in front
 all_more : {X : Type 0} (P : X → Type 0) (x : X) (xs : List X) → P x → All P xs → All P (x ∷ xs)
@@ -84,7 +86,9 @@ keep_from h loss seed first (p ∷ packets) = keep_one h loss seed first p packe
 
 pub loss_leaves : LossLeavesPacketFile
 loss_leaves loss seed most before after bytes left run known none made =
-    let (passed, w, told) = run.done refl in
+    let (out, text, is_due, written, told) = run.done refl in
+    let (passed, w, report_is) = done_due (PassDue (Lose loss seed) most before.input after.input)
+    (RefusesPass (Lose loss seed) most before.input after.input) out text is_due in
     let read = w.reads.reads in
     let kept = keep_from w.header loss seed 0 w.packets in
     let front : List ℕ = header_bytes w.header ++ (spelled w.packets ++ read.piece) in
@@ -106,9 +110,8 @@ loss_leaves loss seed most before after bytes left run known none made =
         header = w.reads.header;
         each = kept.each read.each;
         few = omega (arith, kept.few, read.few);
-        bytes_are = appended_all left (header_bytes w.header ++ texts_from (Lose loss seed) 0
-            w.packets) before.output.bytes after.output.bytes none made w.written
-            ∙ ap (λ (l : List ℕ). header_bytes w.header ++ l) kept.text;
+        bytes_are = appended_all left out before.output.bytes after.output.bytes none made written
+            ∙ (w.text ∙ ap (λ (l : List ℕ). header_bytes w.header ++ l) kept.text);
       },
       kept.among,
       kept.few,

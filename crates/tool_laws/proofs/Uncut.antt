@@ -7,9 +7,9 @@ use Rattle.std.specs.Io.KnownBytes.{Appends, Keeps}
 use Rattle.fec_base.specs.Bytes.{AppendsFront}
 use Rattle.fec_base.specs.Causes.{Rose}
 use Rattle.fec_base.specs.Outside.{Stream}
-use Rattle.object_file.specs.Refusals.{fault_status, refusal_status}
-use Rattle.object_file.specs.declared.causes.Refusal.{Refusal}
-use Rattle.object_file.specs.declared.causes.Refusal.TheVariants.{Draws, File, Memory, Watch}
+use Rattle.tool_base.specs.Refusals.{fault_status, refusal_status}
+use Rattle.tool_base.specs.declared.causes.Refusal.{Refusal}
+use Rattle.tool_base.specs.declared.causes.Refusal.TheVariants.{Draws, File, Memory, Watch}
 use Rattle.packet_file.specs.declared.fault.FileFault.{FileFault}
 use Rattle.packet_file.specs.declared.fault.FileFault.TheVariants.{ShortHeader, BadMagic}
 use Rattle.packet_file.specs.declared.fault.FileFault.TheVariants.{BadVersion, BadCodec}
@@ -19,9 +19,9 @@ use Rattle.packet_file.specs.declared.fault.FileFault.TheVariants.{TooLarge, Too
 use Rattle.packet_file.specs.declared.fault.FileFault.TheVariants.{TooManyPackets, ReadFault}
 use Rattle.tool_base.specs.declared.status.Status.{Status}
 use Rattle.tool_base.specs.declared.status.Status.TheVariants as status
-use Rattle.tool_commands.specs.Ending.{Due, EndsBy, EndsOrRefuses, FrontOf, IsRefusal, OrRefusal}
-use Rattle.tool_commands.specs.Ending.{OutputFails, ReportFails}
-use Rattle.tool_commands.specs.Written.{IsTold}
+use Rattle.tool_base.specs.Ending.{Due, EndsBy, EndsOrRefuses, FrontOf, IsRefusal, OrRefusal}
+use Rattle.tool_base.specs.Ending.{OutputFails, Refuses, ReportFails, Unwritten}
+use Rattle.tool_base.specs.Written.{IsTold}
 use Rattle.tool_laws.specs.RunLaws.{OrMemory}
 
 -- no refusal has the status Done
@@ -40,11 +40,20 @@ no_fault TooManyBlocks is = cc
 no_fault TooManyPackets is = cc
 no_fault ReadFault is = cc
 
-pub no_refusal : (refusal : Refusal) → status.Done ≡ refusal_status refusal → ⊥
+no_refusal : (refusal : Refusal) → status.Done ≡ refusal_status refusal → ⊥
 no_refusal Memory is = cc
 no_refusal (File fault) is = no_fault fault is
 no_refusal (Draws b) is = cc
 no_refusal Watch is = cc
+
+-- what is due at Done is no refusal
+pub done_due : (due : Due) (refuses : Refuses) (out text : List ℕ)
+    → OrRefusal due refuses status.Done out text → due status.Done out text
+done_due due refuses out text is_due = ⊎_elim
+    (λ (d : due status.Done out text). d)
+    (λ (r : IsRefusal refuses status.Done out text). let (refusal, is, cause, named) = r in
+    absurd (no_refusal refusal is))
+    is_due
 
 -- a status is Done or WriteFault, or another one
 by_sinks : (s : Status)
@@ -95,17 +104,25 @@ module _ (output output_now report report_now : Stream)
       (by_sinks ended)
 
   -- and where only memory may refuse, that is what the command says is due
+  pub all_or_memory : (due : Due) (refuses : Refuses) (front : List ℕ → Type 0)
+      → ((refusal : Refusal) (out : List ℕ) → refuses refusal out → refusal ≡ Memory)
+      → EndsBy (OrRefusal due refuses) front output output_now report report_now ended
+      → OrMemory ended (Stands due)
+  all_or_memory due refuses front only e =
+      let (out, text, is_due, written, told) = all_due (OrRefusal due refuses) front e in
+      ⊎_elim
+      (λ (d : due ended out text). inr (out, text, d, written, told))
+      (λ (r : IsRefusal refuses ended out text). let (refusal, is, cause, named) = r in
+      inl (is ∙ ap refusal_status (only refusal out cause)))
+      is_due
+
+  -- the same where a refusal comes before anything is written
   pub due_or_memory : (due : Due) (refuses : Refusal → Type 0)
       → ((refusal : Refusal) → refuses refusal → refusal ≡ Memory)
       → EndsOrRefuses due refuses output output_now report report_now ended
       → OrMemory ended (Stands due)
-  due_or_memory due refuses only e =
-      let (out, text, is_due, written, told) = all_due (OrRefusal due refuses) (FrontOf due) e in
-      ⊎_elim
-      (λ (d : due ended out text). inr (out, text, d, written, told))
-      (λ (r : IsRefusal refuses ended out text). let (none, refusal, is, cause, named) = r in
-      inl (is ∙ ap refusal_status (only refusal cause)))
-      is_due
+  due_or_memory due refuses only e = all_or_memory due (Unwritten refuses) (FrontOf due)
+      (λ refusal out cause. only refusal cause.1) e
 
 -- nothing was appended to what is kept
 pub kept_of_none : (old new : Option (List ℕ)) → Appends old new [] → Keeps old new

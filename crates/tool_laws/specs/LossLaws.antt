@@ -12,7 +12,7 @@ use Rattle.packet_pass.specs.declared.kind.Pass.TheVariants.{Lose}
 use Rattle.tool_base.specs.declared.status.Status.{Status}
 use Rattle.tool_base.specs.declared.status.Status.TheVariants as status
 use Rattle.tool_commands.specs.EncodeRun.{IsEncodeRun}
-use Rattle.tool_commands.specs.Outside.{Streams}
+use Rattle.tool_base.specs.Outside.{Streams}
 use Rattle.tool_commands.specs.PassRun.{IsPassRun}
 use Rattle.tool_laws.specs.RoundTrip.{AreAmong}
 use Rattle.tool_laws.specs.RunLaws.{IsCleanDecode, OrMemory}

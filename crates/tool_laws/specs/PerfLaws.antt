@@ -4,7 +4,7 @@ use Rattle.std.specs.Prelude.{Some, ◌≡◌, ◌≤◌}
 use Rattle.staircase.specs.Staircase.{CountedMatrix}
 use Rattle.tool_base.specs.BlockCode.{shape_matrix}
 use Rattle.tool_base.specs.declared.status.Status.{Status}
-use Rattle.tool_commands.specs.Outside.{Streams}
+use Rattle.tool_base.specs.Outside.{Streams}
 use Rattle.tool_commands.specs.PerfRun.{IsPerfRun, Tried, block_bytes, tried_text}
 use Rattle.tool_laws.specs.RunLaws.{NothingFails, OrMemory}
 use Rattle.tool_commands.specs.declared.options.PerfOptions.{PerfOptions}

@@ -13,7 +13,7 @@ use Rattle.tool_base.specs.declared.status.Status.{Status}
 use Rattle.tool_base.specs.declared.status.Status.TheVariants as status
 use Rattle.object_file.specs.Options.{header_for}
 use Rattle.fec_base.specs.Outside.{Hearing}
-use Rattle.tool_commands.specs.Outside.{Streams}
+use Rattle.tool_base.specs.Outside.{Streams}
 use Rattle.object_file.specs.Received.{IsPacketFile}
 use Rattle.object_file.specs.Told.{HasCodes}
 use Rattle.tool_commands.specs.EncodeRun.{Encoded, IsEncodeRun}

@@ -9,9 +9,9 @@ use Rattle.tool_commands.specs.Outcomes.{decode_report, object_of}
 use Rattle.tool_commands.specs.Ready.{CoresDue, IsMemory}
 use Rattle.fec_base.specs.Outside.{Hearing, Stream, hearing, stream}
 use Rattle.object_file.specs.Told.{StandsAt}
-use Rattle.object_file.specs.declared.causes.Refusal.{Refusal}
+use Rattle.tool_base.specs.declared.causes.Refusal.{Refusal}
 use Rattle.tool_commands.proofs.Determining.{decodes}
-use Rattle.tool_commands.proofs.Endings.{ends_more, ends_refused}
+use Rattle.tool_base.proofs.Endings.{ends_more, ends_refused}
 use Rattle.tool_commands.proofs.decode.decode.Goals as goal
 
 pub finish-requires-clause-counted : goal.finish-requires-clause-counted

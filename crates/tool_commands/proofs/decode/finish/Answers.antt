@@ -1,8 +1,8 @@
 use Rattle.std.proofs.Common.{refl}
 use Rattle.object_file.proofs.Cores.{blank}
-use Rattle.object_file.specs.declared.causes.Refusal.TheVariants.{Memory}
+use Rattle.tool_base.specs.declared.causes.Refusal.TheVariants.{Memory}
 use Rattle.tool_commands.specs.Ready.{IsMemory, OutcomesDue}
-use Rattle.tool_commands.proofs.Endings.{ends_more, ends_refused}
+use Rattle.tool_base.proofs.Endings.{ends_more, ends_refused}
 use Rattle.tool_commands.proofs.Sourced.{all_counts}
 use Rattle.tool_commands.proofs.decode.finish.Goals as goal
 

@@ -1,7 +1,7 @@
 use Rattle.std.proofs.Common.{inl, refl, sym, ◌∙◌}
 use Rattle.tool_commands.specs.Outcomes.{if_done, object_of}
-use Rattle.object_file.specs.declared.causes.Refusal.TheVariants.{Memory}
-use Rattle.tool_commands.proofs.Endings.{ends_cut, ends_refused, ends_reported}
+use Rattle.tool_base.specs.declared.causes.Refusal.TheVariants.{Memory}
+use Rattle.tool_base.proofs.Endings.{ends_cut, ends_refused, ends_reported}
 use Rattle.tool_commands.proofs.Verdicts.{no_write_fault}
 use Rattle.tool_commands.proofs.decode.write_outcomes.Goals as goal
 

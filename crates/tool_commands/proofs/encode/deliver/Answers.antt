@@ -6,7 +6,7 @@ use Rattle.tool_base.specs.declared.status.Status.TheVariants.{Done}
 use Rattle.object_file.specs.File.{encode_report}
 use Rattle.object_file.specs.Made.{AreCodewords}
 use Rattle.object_file.proofs.Codewords.{words_total}
-use Rattle.tool_commands.proofs.Endings.{ends_cut, ends_memory, ends_reported}
+use Rattle.tool_base.proofs.Endings.{ends_cut, ends_memory, ends_reported}
 use Rattle.tool_commands.proofs.encode.deliver.Goals as goal
 
 pub returns-in-Err-Memory-clause-ends : goal.returns-in-Err-Memory-clause-ends

@@ -1,9 +1,9 @@
 use Rattle.fec_base.specs.Outside.{stream}
-use Rattle.tool_commands.specs.Ending.{FrontOf}
+use Rattle.tool_base.specs.Ending.{FrontOf}
 use Rattle.tool_commands.specs.Ready.{FileDue}
 use Rattle.tool_commands.proofs.Delivered.{due_of, whole_of}
 use Rattle.tool_commands.proofs.Encoding.{made_ready, made_file}
-use Rattle.tool_commands.proofs.Endings.{ends_map, ends_refused}
+use Rattle.tool_base.proofs.Endings.{ends_map, ends_refused}
 use Rattle.tool_commands.proofs.encode.encode.Goals as goal
 
 pub deliver-requires-clause-ready : goal.deliver-requires-clause-ready

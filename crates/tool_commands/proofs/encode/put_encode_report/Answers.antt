@@ -2,7 +2,7 @@ use Rattle.std.proofs.Common.{decimal, subst}
 use Rattle.std.specs.Prelude.{codes}
 use Rattle.fec_base.specs.Bytes.{AppendsFront}
 use Rattle.fec_base.proofs.Cuts.{cut_behind, cut_longer, on_err}
-use Rattle.object_file.specs.Refusals.{numbered}
+use Rattle.tool_base.specs.Refusals.{numbered}
 use Rattle.tool_commands.proofs.Reports.{numbered_both}
 use Rattle.tool_commands.proofs.encode.put_encode_report.Goals as goal
 

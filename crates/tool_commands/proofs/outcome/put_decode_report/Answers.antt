@@ -3,7 +3,7 @@ use Rattle.std.specs.Prelude.{codes}
 use Rattle.fec_base.specs.Bytes.{AppendsFront}
 use Rattle.fec_base.proofs.Cuts.{cut_behind, on_err}
 use Rattle.tool_commands.specs.Outcomes.{block_lines}
-use Rattle.object_file.specs.Refusals.{numbered}
+use Rattle.tool_base.specs.Refusals.{numbered}
 use Rattle.tool_commands.proofs.Reports.{numbered_behind}
 use Rattle.tool_commands.proofs.outcome.put_decode_report.Goals as goal
 

@@ -1,7 +1,7 @@
 use Rattle.std.proofs.Common.{◌++◌, decimal}
 use Rattle.std.specs.Prelude.{codes}
 use Rattle.fec_base.proofs.Cuts.{cut_between, cut_longer, cut_third, on_err, written_third}
-use Rattle.object_file.specs.Refusals.{numbered}
+use Rattle.tool_base.specs.Refusals.{numbered}
 use Rattle.tool_commands.proofs.pass_run.put_counts.Goals as goal
 
 pub returns-in_err-put_text-clause-cut : goal.returns-in_err-put_text-clause-cut

@@ -3,9 +3,10 @@ use Rattle.tool_commands.proofs.PassRuns.{ends_file, ends_memory, ends_output, e
 use Rattle.tool_commands.proofs.pass_run.run_pass.Goals as goal
 
 pub returns-in-Ok : goal.returns-in-Ok
-returns-in-Ok g c = ends_whole c.args.what c.args.most _ _ c.report_pass.result c.in-Ok.passed
-    c.in-Ok.ensures.whole c.report_pass.ensures.done c.report_pass.ensures.cut
-    c.report_pass.ensures.ends
+returns-in-Ok g c = let put = c.put_pass_report.ensures in
+    ends_whole c.args.what c.args.most _ _ c.conclude.result c.in-Ok.passed c.in-Ok.ensures.whole
+    c.put_pass_report.result put.written put.cut put.cause c.conclude.ensures.whole
+    c.conclude.ensures.failed c.conclude.ensures.other
 
 pub returns-in-Err-Memory : goal.returns-in-Err-Memory
 returns-in-Err-Memory g c = ends_memory c.args.what c.args.most _ _ c.refuse.result

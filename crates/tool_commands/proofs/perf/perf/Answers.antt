@@ -3,7 +3,7 @@ use Rattle.std.specs.Io.KnownBytes.{Appends}
 use Rattle.std.proofs.KnownBytes.{Appends-nil}
 use Rattle.fec_base.specs.Bytes.{AppendsFront}
 use Rattle.fec_base.specs.Parts.{AppendsPart}
-use Rattle.tool_commands.proofs.Endings.{ends_cut, ends_done, ends_memory, ends_refused}
+use Rattle.tool_base.proofs.Endings.{ends_cut, ends_done, ends_memory, ends_refused}
 use Rattle.tool_commands.proofs.PerfRuns.{tried_of}
 use Rattle.tool_commands.proofs.perf.perf.Goals as goal
 

@@ -30,30 +30,14 @@ returns-in-Lose-clause-runs g c =
     let l = c.in-Lose in
     let asked = command.Lose l.loss l.seed l.packets in
     let is : Some c.args.command ≡ Some asked = search rules in
-    let run = c.run_pass-status.ensures in
-    runs_asked _ _ _ _ _ (Some c.args.command) (Some asked) is
-    (record {
-      done = run.done;
-      cut = run.cut;
-      refused = run.refused;
-      taken = run.taken;
-      ends = run.ends;
-    })
+    runs_asked _ _ _ _ _ (Some c.args.command) (Some asked) is c.run_pass-status.ensures
 
 pub returns-in-Show-clause-runs : goal.returns-in-Show-clause-runs
 returns-in-Show-clause-runs g c =
     let s = c.in-Show in
     let asked = command.Show s.packets in
     let is : Some c.args.command ≡ Some asked = search rules in
-    let run = c.run_pass-status-in-Show.ensures in
-    runs_asked _ _ _ _ _ (Some c.args.command) (Some asked) is
-    (record {
-      done = run.done;
-      cut = run.cut;
-      refused = run.refused;
-      taken = run.taken;
-      ends = run.ends;
-    })
+    runs_asked _ _ _ _ _ (Some c.args.command) (Some asked) is c.run_pass-status-in-Show.ensures
 
 pub returns-in-Perf-clause-runs : goal.returns-in-Perf-clause-runs
 returns-in-Perf-clause-runs g c =

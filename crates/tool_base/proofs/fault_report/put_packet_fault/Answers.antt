@@ -1,8 +1,8 @@
 use Rattle.std.proofs.Common.{◌++◌, decimal}
 use Rattle.std.specs.Prelude.{codes}
 use Rattle.fec_base.proofs.Cuts.{cut_between, cut_longer, cut_third, on_err, written_third}
-use Rattle.object_file.specs.Refusals.{numbered}
-use Rattle.tool_commands.proofs.refusal.put_packet_fault.Goals as goal
+use Rattle.tool_base.specs.Refusals.{numbered}
+use Rattle.tool_base.proofs.fault_report.put_packet_fault.Goals as goal
 
 pub returns-in_err-put_text-clause-cut : goal.returns-in_err-put_text-clause-cut
 returns-in_err-put_text-clause-cut g c =

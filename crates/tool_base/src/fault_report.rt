@@ -4,15 +4,13 @@ ghost use Rattle.std.specs.Io.KnownBytes.{Appends};
 ghost use Rattle.fec_base.specs.Bytes.{AppendsFront};
 ghost use Rattle.fec_base.specs.Causes.{HasCause};
 ghost use Rattle.fec_base.specs.Outside.{stream};
-ghost use Rattle.object_file.specs.Refusals.{file_fault_text, limit_text, packet_text};
-ghost use Rattle.object_file.specs.Refusals.{refusal_status, refusal_text};
-ghost use Rattle.tool_commands.specs.Written.{IsTold};
+ghost use Rattle.tool_base.specs.Refusals.{file_fault_text, limit_text, packet_text};
+ghost use Rattle.tool_base.specs.Refusals.{refusal_status, refusal_text};
+ghost use Rattle.tool_base.specs.Written.{IsTold};
 
-use crate::put_numbered;
+use crate::{Refusal, Status, put_number, put_numbered, put_text};
 use fec_base::{Sink, WriteFailed};
-use object_file::Refusal;
 use packet_file::{FileFault, Limit};
-use tool_base::{Status, put_number, put_text};
 
 /// Ends a run that is refused: the report says why, as far as it takes the text.
 pub fn refuse<R: Sink>(report: &mut R, refusal: Refusal) -> Status

@@ -4,12 +4,12 @@ use Rattle.std.specs.Prelude.{List, [], length, take, ℕ, ◌++◌, ◌<◌, �
 use Rattle.fec_base.specs.Bytes.{AppendsFront}
 use Rattle.fec_base.specs.Causes.{Rose}
 use Rattle.fec_base.specs.Outside.{Stream}
-use Rattle.object_file.specs.Refusals.{refusal_status, refusal_text}
-use Rattle.object_file.specs.declared.causes.Refusal.{Refusal}
+use Rattle.tool_base.specs.Refusals.{refusal_status, refusal_text}
+use Rattle.tool_base.specs.declared.causes.Refusal.{Refusal}
 use Rattle.tool_base.specs.Status.{fault_text}
 use Rattle.tool_base.specs.declared.status.Status.{Status}
 use Rattle.tool_base.specs.declared.status.Status.TheVariants as status
-use Rattle.tool_commands.specs.Written.{IsTold}
+use Rattle.tool_base.specs.Written.{IsTold}
 
 -- what a command says is due: at a status these bytes in the output, and this text in the report
 abbrev pub Due : Type 1
@@ -56,17 +56,26 @@ abbrev pub FrontOf : Due → List ℕ → Type 0
 FrontOf due out = (whole : List ℕ) × (text : List ℕ) × due status.Done whole text
     × (n : ℕ) × (n < length whole) × (out ≡ take n whole)
 
--- nothing is written, and a refusal is reported that has this status and this cause
-abbrev pub IsRefusal : (Refusal → Type 0) → Due
-IsRefusal refuses ended out text = (out ≡ []) × (refusal : Refusal)
-    × (ended ≡ refusal_status refusal) × refuses refusal × (text ≡ refusal_text refusal)
+-- why a command refuses, and what it has written by then
+abbrev pub Refuses : Type 1
+Refuses = Refusal → List ℕ → Type 0
+
+-- a refusal is reported that has this status
+abbrev pub IsRefusal : Refuses → Due
+IsRefusal refuses ended out text = (refusal : Refusal) × (ended ≡ refusal_status refusal)
+    × refuses refusal out × (text ≡ refusal_text refusal)
 
 -- this is due, or a refusal is
-abbrev pub OrRefusal : Due → (Refusal → Type 0) → Due
+abbrev pub OrRefusal : Due → Refuses → Due
 OrRefusal due refuses ended out text = due ended out text ⊎ IsRefusal refuses ended out text
+
+-- it refuses so, and has written nothing
+abbrev pub Unwritten : (Refusal → Type 0) → Refuses
+Unwritten refuses refusal out = (out ≡ []) × refuses refusal
 
 -- how a run ends that writes nothing before it knows all that is due: with that, or with a refusal
 abbrev pub EndsOrRefuses : Due → (Refusal → Type 0) → Stream → Stream → Stream → Stream → Status
     → Type 0
 EndsOrRefuses due refuses output output_now report report_now ended =
-    EndsBy (OrRefusal due refuses) (FrontOf due) output output_now report report_now ended
+    EndsBy (OrRefusal due (Unwritten refuses)) (FrontOf due) output output_now report report_now
+    ended

@@ -1,13 +1,12 @@
 // Why a run ends early.
 ghost use Rattle.std.specs.Prelude.{◌≡◌};
-ghost use Rattle.object_file.specs.Refusals.{fault_status, refusal_status};
-ghost use Rattle.object_file.specs.declared.causes.Refusal.TheVariants.{Memory, File, Watch};
+ghost use Rattle.tool_base.specs.Refusals.{fault_status, refusal_status};
+ghost use Rattle.tool_base.specs.declared.causes.Refusal.TheVariants.{File, Memory};
 
+use crate::Status;
 use fec_base::NoMemory;
-use fec_session::WatchFault;
 use packet_file::FileFault;
 use std::alloc::{AllocError, AllocFailed};
-use tool_base::Status;
 
 /// Why a run ends before its output, or within it for want of memory.
 #[derive(Clone, Copy, Debug, PartialEq, Eq)]
@@ -51,14 +50,6 @@ impl From<FileFault> for Refusal {
 
     fn from(fault: FileFault) -> Self {
         Refusal::File(fault)
-    }
-}
-
-impl From<WatchFault> for Refusal {
-    ghost from_gives = { λ _ refusal. refusal ≡ Watch };
-
-    fn from(_: WatchFault) -> Self {
-        Refusal::Watch
     }
 }
 

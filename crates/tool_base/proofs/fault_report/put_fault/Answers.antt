@@ -1,4 +1,4 @@
-use Rattle.tool_commands.proofs.refusal.put_fault.Goals as goal
+use Rattle.tool_base.proofs.fault_report.put_fault.Goals as goal
 
 pub returns-in-ShortHeader-clause-cut : goal.returns-in-ShortHeader-clause-cut
 returns-in-ShortHeader-clause-cut g c = rw c.in-ShortHeader.is c.put_numbered.ensures.cut

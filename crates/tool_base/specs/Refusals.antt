@@ -13,8 +13,8 @@ use Rattle.packet_file.specs.declared.fault.Limit.{Limit}
 use Rattle.packet_file.specs.declared.fault.Limit.TheVariants.{AllBytes, AllSymbols, BlockBytes}
 use Rattle.packet_file.specs.declared.fault.Limit.TheVariants.{Length}
 use Rattle.tool_base.specs.declared.status.Status.{Status}
-use Rattle.object_file.specs.declared.causes.Refusal.{Refusal}
-use Rattle.object_file.specs.declared.causes.Refusal.TheVariants.{Draws, File, Memory, Watch}
+use Rattle.tool_base.specs.declared.causes.Refusal.{Refusal}
+use Rattle.tool_base.specs.declared.causes.Refusal.TheVariants.{Draws, File, Memory, Watch}
 use Rattle.tool_base.specs.declared.status.Status.TheVariants as status
 
 -- the status of a fault of a file

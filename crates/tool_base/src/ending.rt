@@ -2,17 +2,10 @@
 ghost use Rattle.std.specs.Prelude.{◌≡◌, ◌≢◌, ◌⊎◌, OnOk, OnErr};
 ghost use Rattle.tool_base.specs.Status.{fault_text};
 ghost use Rattle.fec_base.specs.Outside.{stream};
-ghost use Rattle.tool_commands.specs.Written.{IsTold};
+ghost use Rattle.tool_base.specs.Written.{IsTold};
 
-use fec_base::{Sink, Watch, WriteFailed};
-use tool_base::{Status, put_text};
-
-/// How a run ended, and the watch that was handed in.
-#[derive(Drop)]
-pub struct Ended<W = Box<dyn Watch>> {
-    pub status: Status,
-    pub watch: W,
-}
+use crate::{Status, put_text};
+use fec_base::{Sink, WriteFailed};
 
 /// Ends a run with a status whose report goes by nothing else: it takes the text as far as it can.
 pub fn tell<R: Sink>(report: &mut R, status: Status) -> Status

@@ -9,9 +9,9 @@ use Rattle.packet_file.specs.declared.fault.FileFault.TheVariants.{TooLarge, Too
 use Rattle.packet_file.specs.declared.fault.FileFault.TheVariants.{TooManyPackets, ReadFault}
 use Rattle.tool_base.specs.declared.status.Status.{Status}
 use Rattle.tool_base.specs.declared.status.Status.TheVariants as status
-use Rattle.object_file.specs.Refusals.{IsRefused, fault_status, refusal_status}
-use Rattle.object_file.specs.declared.causes.Refusal.{Refusal}
-use Rattle.object_file.specs.declared.causes.Refusal.TheVariants.{Memory, File, Draws, Watch}
+use Rattle.tool_base.specs.Refusals.{IsRefused, fault_status, refusal_status}
+use Rattle.tool_base.specs.declared.causes.Refusal.{Refusal}
+use Rattle.tool_base.specs.declared.causes.Refusal.TheVariants.{Memory, File, Draws, Watch}
 
 -- a fault of a file is no want of memory, and has the status of a refusal
 fault_refused : (fault : FileFault) → IsRefused (fault_status fault)

@@ -6,14 +6,14 @@ use Rattle.std.proofs.KnownBytes.{Appends-nil}
 use Rattle.fec_base.specs.Bytes.{AppendsFront}
 use Rattle.fec_base.specs.Causes.{HasCause}
 use Rattle.fec_base.specs.Outside.{Stream}
-use Rattle.object_file.specs.Refusals.{refusal_status, refusal_text}
-use Rattle.object_file.specs.declared.causes.Refusal.{Refusal}
+use Rattle.tool_base.specs.Refusals.{refusal_status, refusal_text}
+use Rattle.tool_base.specs.declared.causes.Refusal.{Refusal}
 use Rattle.tool_base.specs.declared.status.Status.{Status}
 use Rattle.tool_base.specs.declared.status.Status.TheVariants as status
-use Rattle.tool_commands.specs.Ending.{Due, EndsBy, EndsOrRefuses, FrontOf, OrRefusal}
-use Rattle.tool_commands.specs.Ending.{OutputFails, ReportFails}
-use Rattle.tool_commands.specs.Written.{IsTold}
-use Rattle.tool_commands.proofs.Ends.{no_other}
+use Rattle.tool_base.specs.Ending.{Due, EndsBy, EndsOrRefuses, FrontOf, OrRefusal}
+use Rattle.tool_base.specs.Ending.{OutputFails, Refuses, ReportFails, Unwritten}
+use Rattle.tool_base.specs.Written.{IsTold}
+use Rattle.tool_base.proofs.Ends.{no_other}
 
 -- a status is Done, or another one
 pub done_or_other : (s : Status) → (s ≡ status.Done) ⊎ (s ≢ status.Done)
@@ -140,10 +140,11 @@ pub ends_more : (due due_now : Due) (refuses refuses_now : Refusal → Type 0)
     → EndsOrRefuses due refuses output output_now report report_now ended
     → EndsOrRefuses due_now refuses_now output output_now report report_now ended
 ends_more due due_now refuses refuses_now output output_now report report_now ended more causes e =
-    ends_map (OrRefusal due refuses) (OrRefusal due_now refuses_now) (FrontOf due)
-    (FrontOf due_now) output output_now report report_now ended
+    ends_map (OrRefusal due (Unwritten refuses)) (OrRefusal due_now (Unwritten refuses_now))
+    (FrontOf due) (FrontOf due_now) output output_now report report_now ended
     (λ s out text. ⊎_elim (λ (d : due s out text). inl (more s out text d))
-    (λ (none, refusal, is, cause, named). inr (none, refusal, is, causes refusal cause, named)))
+    (λ (refusal, is, (none, cause), named).
+    inr (refusal, is, (none, causes refusal cause), named)))
     (λ out (whole, text, d, n, short, is). (
       whole,
       text,
@@ -154,6 +155,19 @@ ends_more due due_now refuses refuses_now output output_now report report_now en
     ))
     e
 
+-- a refusal was told, behind what was written
+pub ends_refusing : (due : Due) (refuses : Refuses) (front : List ℕ → Type 0)
+    (output output_now report report_now : Stream) (ended : Status) (refusal : Refusal)
+    → ended ≡ refusal_status refusal → (out : List ℕ) → refuses refusal out
+    → Appends output.bytes output_now.bytes out → IsTold (refusal_text refusal) report report_now
+    → EndsBy (OrRefusal due refuses) front output output_now report report_now ended
+ends_refusing due refuses front output output_now report report_now ended refusal is out cause
+    written told =
+        ends_other (OrRefusal due refuses) front output output_now report report_now ended
+        (λ done. no_other refusal ended status.Done is done)
+        (λ cut. no_other refusal ended status.WriteFault is cut) out (refusal_text refusal)
+        (inr (refusal, is, cause, refl)) written told
+
 module _ (due : Due) (refuses : Refusal → Type 0) (output report report_now : Stream)
     (ended : Status) where
   -- nothing was written, and a refusal was told
@@ -161,7 +175,5 @@ module _ (due : Due) (refuses : Refusal → Type 0) (output report report_now : 
       → IsTold (refusal_text refusal) report report_now
       → EndsOrRefuses due refuses output output report report_now ended
   ends_refused refusal is cause told =
-      ends_other (OrRefusal due refuses) (FrontOf due) output output report report_now ended
-      (λ done. no_other refusal ended status.Done is done)
-      (λ cut. no_other refusal ended status.WriteFault is cut) [] (refusal_text refusal)
-      (inr (refl, refusal, is, cause, refl)) (Appends-nil output.bytes) told
+      ends_refusing due (Unwritten refuses) (FrontOf due) output output report report_now ended
+      refusal is [] (refl, cause) (Appends-nil output.bytes) told

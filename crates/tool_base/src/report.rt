@@ -3,10 +3,10 @@ ghost use Rattle.std.specs.Prelude.{OnErr, OnOk};
 ghost use Rattle.std.specs.Io.KnownBytes.{Appends};
 ghost use Rattle.fec_base.specs.Bytes.{AppendsFront};
 ghost use Rattle.fec_base.specs.Causes.{HasCause};
-ghost use Rattle.object_file.specs.Refusals.{numbered};
+ghost use Rattle.tool_base.specs.Refusals.{numbered};
 
+use crate::{put_number, put_text};
 use fec_base::{Sink, WriteFailed};
-use tool_base::{put_number, put_text};
 
 /// Reports a line with a number at its end.
 pub fn put_numbered<R: Sink>(report: &mut R, text: &str, number: u64) -> Result<(), WriteFailed>
