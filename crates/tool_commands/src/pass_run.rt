@@ -11,9 +11,7 @@ ghost use Rattle.tool_base.specs.Refusals.{numbered};
 use fec_base::{Sink, Source, WriteFailed};
 use packet_pass::{Pass, PassRefusal, Passed, pass};
 use std::alloc::Global;
-use tool_base::{
-    Refusal, Status, conclude, put_number, put_numbered, put_text, refuse, tell,
-};
+use tool_base::{Refusal, Status, conclude, put_number, put_numbered, put_text, refuse, tell};
 
 /// Passes once over the packet file that the input is, of at most `most` packets, and writes it
 /// without the packets that are lost, or shows it. One packet is in memory at a time, and each

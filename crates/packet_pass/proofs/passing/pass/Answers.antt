@@ -124,8 +124,7 @@ returns-clause-whole g c =
     let header = c.in_ok-header.ensures.header in
     let taken = c.in_ok-header.ensures.bytes in
     let later = c.read_header.ensures.later in
-    let sink_later = c.put_head.ensures.cause.later in
-    (
+    let sink_later = c.put_head.ensures.cause.later in (
       head_of pass h ++ texts pass packets,
       written_behind pass most h input mid now output out_mid out_now header taken written later
           sink_later packets End s,
