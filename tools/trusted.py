@@ -38,7 +38,7 @@ APART = {
     **dict.fromkeys((("fec_base", name) for name in ("Causes", "Told", "Outside", "Bytes")), OUTSIDE),
     **dict.fromkeys((("packet_file", name) for name in ("OneReading", "Reading", "Taking")), OUTSIDE),
     **dict.fromkeys((("object_file", name) for name in ("Reception", "Taken")), OUTSIDE),
-    **dict.fromkeys((("tool_commands", name) for name in ("Outside", "Written", "Ending")), OUTSIDE),
+    **dict.fromkeys((("tool_base", name) for name in ("Outside", "Written", "Ending")), OUTSIDE),
 }
 COUNTING = {("std.proofs.Common", "zero"), ("std.proofs.Common", "suc")}
 
