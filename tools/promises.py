@@ -1,6 +1,7 @@
 #!/usr/bin/env python3
-"""Finds the clause behind each promise of docs/PROMISES.md, and behind each answer of docs/CAUSES.md, the code of
-docs/LIBRARY.md in the example, each definition that a page names with its file, and what `main` puts in a box.
+"""Finds the clause behind each promise of docs/PROMISES.md and behind each status of docs/COMMANDS.md, the code of
+docs/LIBRARY.md in the example, each definition that a page names with its file, what `main` puts in a box, and where each
+link between pages leads.
 
 A line of a table ends with functions and, in brackets, clauses of their contracts, or fields of a record of promises.
 Each has to be there, in the crates that the heading above names. With `-v` each is printed with its file and line; a
@@ -12,7 +13,7 @@ import sys
 from typing import NamedTuple, Optional
 
 TOP = pathlib.Path(__file__).resolve().parent.parent
-PAGES = [TOP / "docs" / "PROMISES.md", TOP / "docs" / "CAUSES.md"]
+PAGES = [TOP / "docs" / "PROMISES.md", TOP / "docs" / "COMMANDS.md"]
 LIBRARY, EXAMPLE = TOP / "docs" / "LIBRARY.md", TOP / "crates" / "one_block"
 # The crate that a file of definitions is of where a page names none.
 COMMANDS = "tool_commands"
@@ -23,6 +24,7 @@ CLAUSE = re.compile(r"^\s*ensures\*? (\w+) \{")
 FIELD = re.compile(r"^ {2,4}pub (\w+) :")
 PLACED = re.compile(r"((?:`\w+`(?:,|,? and)?\s*)+)\((?:in )?`(?:crates/)?((?:\w+/)?specs/\w+)(?:\.antt)?`")
 BOXED = re.compile(r"a `(\w+)` in a box")
+LINK = re.compile(r"\]\(([^)\s]+)\)")
 NAMED = re.compile(r"`([\w:]+)`(?:`?: )?(?: \(([^)]*)\))?")
 
 
@@ -85,7 +87,7 @@ class Reader:
 
     def read(self):
         for self.number, line in enumerate(self.page.read_text().splitlines(), 1):
-            if line.startswith("### "):
+            if line.startswith("#"):
                 self.enter(re.findall(r"`(\w+)`", line))
             if self.crates and line.startswith("|") and not line.startswith(HEADS):
                 self.look_up(line.rstrip("|").split("|")[-1].strip())
@@ -168,12 +170,34 @@ def unboxed():
                 yield f"{page.relative_to(TOP)}: `main` makes no `{name}` in a box"
 
 
+def anchors(page):
+    """What the headings of a page are called in links: small letters and digits, hyphens for spaces."""
+    text = re.sub(r"^```.*?^```", "", page.read_text(), flags=re.M | re.S)
+    titles = re.findall(r"^#+ (.*)$", text, re.M)
+    return {re.sub(r"[^\w -]", "", title.lower()).replace(" ", "-") for title in titles}
+
+
+def astray():
+    """Of each link of a page to a place of this repository, whether that isn't there."""
+    for page in [TOP / "README.md", *sorted((TOP / "docs").glob("*.md"))]:
+        for link in LINK.findall(page.read_text()):
+            name, _, anchor = link.partition("#")
+            path = page.parent / name if name else page
+            if link.startswith(("http:", "https:", "mailto:")):
+                continue
+            if not path.exists():
+                yield f"{page.relative_to(TOP)}: `{link}` leads to no file"
+            elif anchor and (path.suffix != ".md" or anchor not in anchors(path)):
+                yield f"{page.relative_to(TOP)}: `{link}` leads to no heading"
+
+
 def main():
     readers = [Reader(page) for page in PAGES]
     for reader in readers:
         reader.read()
     found = [line for reader in readers for line in reader.found]
-    errors = [line for reader in readers for line in reader.errors] + list(pasted()) + list(misplaced()) + list(unboxed())
+    errors = [line for reader in readers for line in reader.errors]
+    errors += [*pasted(), *misplaced(), *unboxed(), *astray()]
     if "-v" in sys.argv[1:]:
         print("\n".join(found))
         print(f"{len(found)} functions, clauses and fields found")

@@ -38,7 +38,7 @@ APART = {
     **dict.fromkeys((("fec_base", name) for name in ("Causes", "Told", "Outside", "Bytes")), OUTSIDE),
     **dict.fromkeys((("packet_file", name) for name in ("OneReading", "Reading", "Taking")), OUTSIDE),
     **dict.fromkeys((("object_file", name) for name in ("Reception", "Taken")), OUTSIDE),
-    **dict.fromkeys((("tool_commands", name) for name in ("Outside", "Written", "Ending")), OUTSIDE),
+    **dict.fromkeys((("tool_base", name) for name in ("Outside", "Written", "Ending")), OUTSIDE),
 }
 COUNTING = {("std.proofs.Common", "zero"), ("std.proofs.Common", "suc")}
 
@@ -364,7 +364,7 @@ class Listing:
         return APART.get((crate, name)) or (CODES if crate in CODE_CRATES else TOOL)
 
     def table(self, crate, part):
-        """The believed files of a crate that are in this part, and its types where they are."""
+        """Rows of the believed files of a crate that are in this part, and of its types where they are."""
         files = [
             file
             for file in self.files(crate)
@@ -377,9 +377,7 @@ class Listing:
         )
         held = [[d for d in f.definitions.values() if d in self.believed] for f in files]
         if files or types:
-            yield "\n### `%s`: definitions %d, lines %d\n" % (crate, *counted(sum(held, [])))
-        if files:
-            yield "| file | for `run` | for the laws alone |\n|---|---|---|"
+            yield "| **`%s`**: definitions %d, lines %d | | |" % (crate, *counted(sum(held, [])))
         for file, definitions in zip(files, held):
             cells = ["", ""]
             for d in definitions:
@@ -387,7 +385,7 @@ class Listing:
                 cells[at] += f"{', ' if cells[at] else ''}`{d.name}` {len(d.text)}"
             yield f"| [{file.path.stem}](../{place(file.path)}) | {cells[0]} | {cells[1]} |"
         if types:
-            yield ("\n" if files else "") + f"Types: {', '.join(types)}."
+            yield f"| types | {', '.join(types)} | |"
 
     def kit(self):
         """The words of the kit that believed definitions use, by module."""
@@ -417,7 +415,8 @@ class Listing:
                 for d in self.run
                 if isinstance(d, Definition) and self.part(d.file.crate, d.file.path.stem) == part
             ]
-            lines.append("\n## %s: for `run` definitions %d, lines %d" % (part, *counted(own)))
+            lines.append("\n## %s: for `run` definitions %d, lines %d\n" % (part, *counted(own)))
+            lines.append("| file | for `run` | for the laws alone |\n|---|---|---|")
             for crate in self.crates:
                 lines += self.table(crate, part)
         lines += [OTHERS, "| crate | for its public contracts | inside |", "|---|---|---|"]

@@ -9,7 +9,8 @@ use Rattle.packet_file.specs.declared.fault.FileFault.TheVariants.{TooLarge, Too
 use Rattle.packet_file.specs.declared.fault.FileFault.TheVariants.{TooManyPackets, ReadFault}
 use Rattle.tool_base.specs.declared.status.Status.{Status}
 use Rattle.tool_base.specs.declared.status.Status.TheVariants as status
-use Rattle.tool_base.specs.Refusals.{IsRefused, fault_status, refusal_status}
+use Rattle.tool_base.specs.RefusalStatuses.{IsRefused}
+use Rattle.tool_base.specs.Refusals.{fault_status, refusal_status}
 use Rattle.tool_base.specs.declared.causes.Refusal.{Refusal}
 use Rattle.tool_base.specs.declared.causes.Refusal.TheVariants.{Memory, File, Draws, Watch}
 

@@ -9,6 +9,7 @@ pub mod Status
 pub mod ExitCodes
 pub mod BlockCode
 pub mod Refusals
+pub mod RefusalStatuses
 pub mod Outside
 pub mod Written
 pub mod Ending

@@ -1,6 +1,6 @@
 -- The statuses and the texts of refusals.
 use Rattle.std.specs.Fmt.{decimal}
-use Rattle.std.specs.Prelude.{List, codes, ℕ, ⊤, ◌++◌}
+use Rattle.std.specs.Prelude.{List, codes, ℕ, ◌++◌}
 use Rattle.oti_fields.specs.Faults.{fault_number}
 use Rattle.packet_file.specs.declared.fault.FileFault.{FileFault}
 use Rattle.packet_file.specs.declared.fault.FileFault.TheVariants.{BadCodec, BadMagic, BadReserved}
@@ -69,13 +69,3 @@ refusal_text Memory = codes "fault: memory\n"
 refusal_text (File fault) = file_fault_text fault
 refusal_text (Draws b) = numbered (codes "fault: draws block ") b
 refusal_text Watch = codes "fault: watch\n"
-
--- the statuses of refusals
-abbrev pub IsRefused : Status → Type 0
-IsRefused status.Memory = ⊤
-IsRefused status.ReadFault = ⊤
-IsRefused status.Malformed = ⊤
-IsRefused status.Draws = ⊤
-IsRefused status.Limit = ⊤
-IsRefused status.WatchFault = ⊤
-IsRefused _ = ⊥
