@@ -1,6 +1,6 @@
 -- The free unknowns of a packed system, by its rows in echelon form.
-use Rattle.std.proofs.Common.{◌≡◌, ◌↔◌, ℕ, ◌*◌, ◌<◌, ◌≤◌, ⊎_elim, not, true, false, List, length, sym}
-use Rattle.std.proofs.Common.{◌∙◌, refl, subst, true≢false, ltb}
+use Rattle.std.proofs.Common.{◌≡◌, ◌↔◌, ℕ, ◌*◌, ◌<◌, ◌≤◌, ⊎_elim, not, true, false, List, length}
+use Rattle.std.proofs.Common.{◌∙◌, refl, sym, subst, true≢false, ltb}
 use Rattle.std.specs.List.{range_with_len}
 use Rattle.std.proofs.lemmas.Bool.{cases_lt, le-ltb, lt-ltb, not-true}
 use Rattle.sparse_rows.specs.Closure.{Set, members}
