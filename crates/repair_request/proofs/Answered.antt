@@ -4,8 +4,10 @@ use Rattle.std.proofs.Common.{length, refl, sym, ap, ◌∙◌, arith, length-ap
 use Rattle.std.proofs.lemmas.List.Folds.{list_any-append}
 use Rattle.sparse_rows.specs.Matrix.{Matrix, is_in}
 use Rattle.sparse_rows.specs.Closure.{Set}
+use Rattle.sparse_rows.specs.NullWord.{IsNullWord}
+use Rattle.null_witness.specs.ReducedWords.{AreLate}
 use Rattle.null_witness.proofs.Subsets.{null_subset}
-use Rattle.repair_request.specs.Settling.{AreLate, IsDeficiency, Settles, together}
+use Rattle.repair_request.specs.Settling.{IsDeficiency, Settles, together}
 use Rattle.repair_request.proofs.Further.{together_null}
 
 or_both : (a b c : Bool) → ((a || b) || c) ≡ (a || (b || c))
@@ -41,8 +43,8 @@ part_counts m s part rest d settles = record {
 }
 
 -- what is late after further arrivals was late before
-pub late_shrink : (m : Matrix) (s : Set) (more late later : List ℕ) → AreLate m s late
-    → AreLate m (together s more) later → (p : ℕ) → is_in later p ≡ true → is_in late p ≡ true
+pub late_shrink : (m : Matrix) (s : Set) (more late later : List ℕ) → AreLate (IsNullWord m s) late
+    → AreLate (IsNullWord m (together s more)) later → (p : ℕ) → is_in later p ≡ true → is_in late p ≡ true
 late_shrink m s more late later h g p e =
     let l = (g.each p).0 e in
     (h.each p).1 (l.0, together_null m s more l.0 l.1, l.2)

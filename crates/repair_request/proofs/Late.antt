@@ -11,11 +11,11 @@ use Rattle.sparse_rows.proofs.Increasing.{rising_same}
 use Rattle.sparse_rows.proofs.Null.{in_all, members_in, members_rise, passes}
 use Rattle.sparse_rows.proofs.Sets.{or_first, or_second, same_test}
 use Rattle.sparse_rows.proofs.Sets.{true_or_false}
-use Rattle.null_witness.specs.ReducedWords.{IsLate}
+use Rattle.null_witness.specs.ReducedWords.{AreLate, IsLate}
 use Rattle.null_witness.proofs.Increasing.{last_in}
 use Rattle.null_witness.proofs.NullWords.{null_decided}
 use Rattle.null_witness.proofs.Subsets.{null_subset}
-use Rattle.repair_request.specs.Settling.{AreLate, IsDeficiency, IsInnovative, Settles, together}
+use Rattle.repair_request.specs.Settling.{IsDeficiency, IsInnovative, Settles, together}
 use Rattle.repair_request.proofs.Counting.{fewer, some_out, without, without_in, without_shorter}
 use Rattle.repair_request.proofs.Further.{holds_it, late_after, late_before, one_gone, some_gone}
 use Rattle.repair_request.proofs.Further.{together_lacks, together_null}
@@ -50,7 +50,7 @@ module _ (m : Matrix) (s : Set) where
   pub late_list : List ℕ
   late_list = members m.n is_late
 
-  pub late_list_is : AreLate m s late_list
+  pub late_list_is : AreLate (IsNullWord m s) late_list
   unfolding late_list is_late
   late_list_is = record {
     rising = members_rise m.n is_late;
@@ -60,12 +60,12 @@ module _ (m : Matrix) (s : Set) where
     );
   }
 
-  pub late_is_one : (late other : List ℕ) → AreLate m s late → AreLate m s other → other ≡ late
+  pub late_is_one : (late other : List ℕ) → AreLate (IsNullWord m s) late → AreLate (IsNullWord m s) other → other ≡ late
   late_is_one late other h g = rising_same other late g.rising h.rising (λ c. same_test _ _
       (λ e. (h.each c).1 ((g.each c).0 e)) (λ e. (g.each c).1 ((h.each c).0 e)))
 
   -- a null word holds a late position: its last one
-  pub late_settles : (late : List ℕ) → AreLate m s late → Settles m s late
+  pub late_settles : (late : List ℕ) → AreLate (IsNullWord m s) late → Settles m s late
   late_settles late h word null =
       let is = together_null m s late word null in
       let last : is_in late (last_of word) ≡ true = (h.each (last_of word)).1 (word, is, refl) in
@@ -73,7 +73,7 @@ module _ (m : Matrix) (s : Set) where
       ∙ together_lacks m s late word null (last_of word) last)
 
   -- with no null word nothing is late
-  none_late : ((word : List ℕ) → ¬ IsWord word) → (late : List ℕ) → AreLate m s late → late ≡ []
+  none_late : ((word : List ℕ) → ¬ IsWord word) → (late : List ℕ) → AreLate (IsNullWord m s) late → late ≡ []
   none_late none [] h = refl
   none_late none (p ∷ late) h =
       let l = (h.each p).0 (or_first (p == p) _ (eq-eqb p p refl)) in
@@ -81,8 +81,8 @@ module _ (m : Matrix) (s : Set) where
 
 -- ---- one further position
 
-module _ (m : Matrix) (s : Set) (e : ℕ) (late later : List ℕ) (h : AreLate m s late)
-    (g : AreLate m (adding e s) later) where
+module _ (m : Matrix) (s : Set) (e : ℕ) (late later : List ℕ) (h : AreLate (IsNullWord m s) late)
+    (g : AreLate (IsNullWord m (adding e s)) later) where
   stays : (c : ℕ) → is_in later c ≡ true → is_in late c ≡ true
   stays c f = (h.each c).1 (late_before m s e c ((g.each c).0 f))
 
@@ -159,7 +159,7 @@ none_left m s settles word null = settles word
     or_false false f = f
 
 pub no_fewer : (m : Matrix) (s : Set) (request late : List ℕ) → Settles m s request
-    → AreLate m s late → length late ≤ length request
+    → AreLate (IsNullWord m s) late → length late ≤ length request
 no_fewer m s [] late settles h = rw (none_late m s (none_left m s settles) late h) zero-le
 no_fewer m s (e ∷ request) late settles h =
     let rest : length (late_list m (adding e s)) ≤ length request = no_fewer m (adding e s) request
@@ -168,7 +168,7 @@ no_fewer m s (e ∷ request) late settles h =
     let step = at_most_one m s e late (late_list m (adding e s)) h (late_list_is m (adding e s)) in
     omega arith
 
-pub fewest : (m : Matrix) (s : Set) (late : List ℕ) → AreLate m s late
+pub fewest : (m : Matrix) (s : Set) (late : List ℕ) → AreLate (IsNullWord m s) late
     → IsDeficiency m s (length late)
 fewest m s late h = record {
   enough = (late, late_settles m s late h, refl);

@@ -5,5 +5,4 @@ pub mod Meaning
 pub mod Residual
 pub mod Turns
 pub mod Dimension
-pub mod Ends
 pub mod Answered

@@ -6,22 +6,23 @@ use Rattle.sparse_rows.specs.Closure.{Set, adding, closure, members}
 use Rattle.sparse_rows.specs.NullWord.{IsNullWord}
 use Rattle.sparse_rows.specs.Fitting.{IsFitting}
 use Rattle.sparse_rows.specs.Determined.{IsSource}
+use Rattle.null_witness.specs.ReducedWords.{AreLate}
 use Rattle.partial_block.specs.Through.{IsDetermined}
-use Rattle.repair_request.specs.Settling.{AreInnovative, AreLate, IsDeficiency, IsInnovative}
+use Rattle.repair_request.specs.Settling.{AreInnovative, IsDeficiency, IsInnovative}
 use Rattle.repair_request.specs.Settling.{Settles, answers, together}
 
 -- each set has late positions, and one list of them
 abbrev pub EachSetHasLate : Type 0
-EachSetHasLate = (m : Matrix) (s : Set) → (late : List ℕ) × AreLate m s late
-    × ((other : List ℕ) → AreLate m s other → other ≡ late)
+EachSetHasLate = (m : Matrix) (s : Set) → (late : List ℕ) × AreLate (IsNullWord m s) late
+    × ((other : List ℕ) → AreLate (IsNullWord m s) other → other ≡ late)
 
 -- they settle the block
 abbrev pub LateSettle : Type 0
-LateSettle = (m : Matrix) (s : Set) (late : List ℕ) → AreLate m s late → Settles m s late
+LateSettle = (m : Matrix) (s : Set) (late : List ℕ) → AreLate (IsNullWord m s) late → Settles m s late
 
 -- and no fewer positions do
 abbrev pub LateAreFewest : Type 0
-LateAreFewest = (m : Matrix) (s : Set) (late : List ℕ) → AreLate m s late
+LateAreFewest = (m : Matrix) (s : Set) (late : List ℕ) → AreLate (IsNullWord m s) late
     → IsDeficiency m s (length late)
 
 -- the deficiency is zero exactly where there is no null word
@@ -62,8 +63,8 @@ EachPartCounts = (m : Matrix) (s : Set) (part rest : List ℕ)
 
 -- whatever arrives, no position becomes late that wasn't
 abbrev pub LateOnlyShrink : Type 0
-LateOnlyShrink = (m : Matrix) (s : Set) (more late later : List ℕ) → AreLate m s late
-    → AreLate m (together s more) later → (position : ℕ) → is_in later position ≡ true
+LateOnlyShrink = (m : Matrix) (s : Set) (more late later : List ℕ) → AreLate (IsNullWord m s) late
+    → AreLate (IsNullWord m (together s more)) later → (position : ℕ) → is_in later position ≡ true
     → is_in late position ≡ true
 
 -- the source positions that are missing settle the block

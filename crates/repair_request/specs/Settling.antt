@@ -1,11 +1,9 @@
 -- Which further positions settle a source block, and how many it takes at the least.
-use Rattle.std.specs.Prelude.{◌≡◌, ◌≤◌, ◌↔◌, ℕ, ◌||◌, true, List, [], ◌∷◌, ⊤, length, map}
-use Rattle.std.specs.List.Sorted.{IsStrictlyIncreasing}
+use Rattle.std.specs.Prelude.{◌≡◌, ◌≤◌, ℕ, ◌||◌, true, List, [], ◌∷◌, ⊤, length, map}
 use Rattle.sparse_rows.specs.Matrix.{Matrix, is_in}
 use Rattle.sparse_rows.specs.Codeword.{Arrival, symbol_at}
 use Rattle.sparse_rows.specs.Closure.{Set, adding}
 use Rattle.sparse_rows.specs.NullWord.{IsNullWord}
-use Rattle.null_witness.specs.ReducedWords.{IsLate}
 
 -- the positions of the set, and those of the list
 abbrev pub together : Set → List ℕ → Set
@@ -30,11 +28,6 @@ abbrev pub AreInnovative : Matrix → Set → List ℕ → Type 0
 AreInnovative m s [] = ⊤
 AreInnovative m s (position ∷ request) =
     IsInnovative m s position × AreInnovative m (adding position s) request
-
--- the positions where null words of the set end, rising
-pub record AreLate (m : Matrix) (s : Set) (late : List ℕ) : Type 0 where
-  pub rising : IsStrictlyIncreasing late
-  pub each : (position : ℕ) → (is_in late position ≡ true) ↔ IsLate (IsNullWord m s) position
 
 -- the symbols that a word has at these positions, as arrivals
 abbrev pub answers : ℕ → List (List ℕ) → List ℕ → List Arrival

@@ -1,6 +1,6 @@
 //! What a receiver of an undetermined source block asks for: the fewest further encoding symbols
 //! that determine it, by their positions. It stands on `fec_session` for the decoder and for the
-//! equations that peeling leaves, on `gauss` for their reduced form, on `null_witness` for the
+//! equations that peeling leaves, on `gauss` for their free unknowns, on `null_witness` for the
 //! positions where null words end, and on `partial_block` for what null words show of a symbol. It
 //! promises that `request` gives exactly these positions, and the laws that they settle the block
 //! and that no fewer positions do, whoever chooses them.
