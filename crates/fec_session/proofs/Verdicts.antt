@@ -45,14 +45,14 @@ use Rattle.fec_session.proofs.Residues.{back}
 
 -- ---- lists of columns
 
-in_map : (f : ℕ → ℕ) (xs : List ℕ) (c : ℕ) → is_in (map f xs) c ≡ true
+pub in_map : (f : ℕ → ℕ) (xs : List ℕ) (c : ℕ) → is_in (map f xs) c ≡ true
     → (i : ℕ) × (is_in xs i ≡ true) × (f i ≡ c)
 in_map f [] c e = absurd (cc)
 in_map f (x ∷ xs) c e = ⊎_elim (λ g. (x, or_first (x == x) _ (eq-eqb x x refl), eqb-true (f x) c g))
     (λ g. let r = in_map f xs c g in (r.0, or_second (x == r.0) _ r.1, r.2))
     (or_cases (f x == c) _ e)
 
-map_in : (f : ℕ → ℕ) (xs : List ℕ) (i : ℕ) → is_in xs i ≡ true → is_in (map f xs) (f i) ≡ true
+pub map_in : (f : ℕ → ℕ) (xs : List ℕ) (i : ℕ) → is_in xs i ≡ true → is_in (map f xs) (f i) ≡ true
 map_in f [] i e = absurd (cc)
 map_in f (x ∷ xs) i e = ⊎_elim (λ g. or_first (f x == f i) _ (eq-eqb _ _ (ap f (eqb-true x i g))))
     (λ g. or_second (f x == f i) _ (map_in f xs i g)) (or_cases (x == i) _ e)
@@ -65,7 +65,7 @@ map_rises f xs rising h k lt = let lt2 : k + 1 < length xs = rw length-map at lt
     rw (get_or-map f xs k 0 0 lt3, get_or-map f xs (k + 1) 0 0 lt2)
     (h _ _ (in_at xs k 0 lt3) (in_at xs (k + 1) 0 lt2) (rising k lt2))
 
-last_map : (f : ℕ → ℕ) (xs : List ℕ) → xs ≢ [] → last_of (map f xs) ≡ f (last_of xs)
+pub last_map : (f : ℕ → ℕ) (xs : List ℕ) → xs ≢ [] → last_of (map f xs) ≡ f (last_of xs)
 last_map f [] h = absurd (h refl)
 last_map f (x ∷ []) h = refl
 last_map f (x ∷ y ∷ ys) h = last_map f (y ∷ ys) (λ e. cc)

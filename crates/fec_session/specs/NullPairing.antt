@@ -1,8 +1,9 @@
 -- Null words of what arrived, and null sets of what peeling leaves.
-use Rattle.std.specs.Prelude.{◌≡◌, ◌<◌, ℕ, false, List, length, slice_index}
+use Rattle.std.specs.Prelude.{◌≡◌, ◌<◌, ◌↔◌, ℕ, false, List, length, slice_index}
 use Rattle.sparse_rows.specs.Codeword.{Arrival, positions}
 use Rattle.sparse_rows.specs.Closure.{flagged}
 use Rattle.sparse_rows.specs.NullWord.{IsNullWord}
+use Rattle.null_witness.specs.ReducedWords.{IsLate}
 use Rattle.peeling.specs.Decoder.{Decoder, IsDecoder}
 use Rattle.peeling.specs.Stands.{StandsFor}
 use Rattle.gauss.specs.Reduction.{IsNullSet}
@@ -39,6 +40,13 @@ pub record IsNullPairing (d : Decoder) (arrivals : List Arrival) : Type 0 where
       → columns_at d (places_of d word) ≡ word
   pub same_set : (set : List ℕ) → IsNullSet (residue d) set
       → places_of d (columns_at d set) ≡ set
+  -- a null word ends at a column exactly where that is unknown and a null set ends at its place,
+  pub late_word : (c : ℕ) → IsLate (IsNullWord d.matrix (positions arrivals)) c
+      ↔ IsUnknownColumn d c × IsLate (IsNullSet (residue d)) (place d c)
+  -- and a null set at a place exactly where a null word ends at its column
+  pub late_set : (i : ℕ) → IsLate (IsNullSet (residue d)) i
+      ↔ (i < length (unknown_columns d))
+      × IsLate (IsNullWord d.matrix (positions arrivals)) (slice_index (unknown_columns d) i)
 
 -- so it is at each decoder
 abbrev pub NullWordsPairWithNullSets : Type 0

@@ -23,8 +23,8 @@ pub fn codewords_pair_with_solutions()
 {}
 
 /// Where a decoder stands for its arrivals, the null words of what arrived pair one to one with the
-/// null sets of the equations that peeling leaves: an unknown of these is a column by its place
-/// among the unknown ones, which rise together.
+/// null sets of the equations that peeling leaves, and end together: an unknown of these is a column
+/// by its place among the unknown ones, which rise together.
 pub fn null_words_pair_with_null_sets()
     ensures pairs { NullWordsPairWithNullSets }
     ensures places { PlacesAreOfColumns }

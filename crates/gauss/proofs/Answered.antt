@@ -58,11 +58,11 @@ small_below u r bits pivot_row sum hs (suc n) y hy c = small_below u r bits pivo
     (λ d. by_case (d == n) (ltb (pivot_row n) r) (y d) (hy d)) c
   where
     by_case : (a b : Bool) (v : ℕ) → v < 256
-        → cond a (cond b (value 0 bit_xor u bits pivot_row sum n y) 0) v < 256
+        → cond a (cond b (value 0 bit_xor u bits pivot_row sum n y) (y n)) v < 256
     by_case true true v lt = xor_of_8 (sum (pivot_row n))
         (product 0 bit_xor u (behind bits pivot_row n) y) (hs (pivot_row n))
         (small_product u (behind bits pivot_row n) y hy)
-    by_case true false v lt = omega arith
+    by_case true false v lt = hy n
     by_case false b v lt = lt
 
 module _ (s : System) (ok : IsSystem s) where
@@ -265,6 +265,9 @@ module _ (s : System) (ok : IsSystem s) where
               (some_plane t)
           valued t p lt pivot = below_valued 0 bit_xor byte_laws s.unknowns now pivot_row
               (last_plane t) (length s.equations) s.unknowns (λ c. 0) p lt pivot
+
+      pub some_solves : (x : ℕ → List ℕ) × IsSolution s x
+      some_solves = (some_at, some_solution)
 
       -- ---- the first free unknown gives the first null set
 

@@ -1,7 +1,7 @@
 -- Back substitution: what the pivot rows give to their unknowns, from the last one down.
 use Rattle.std.proofs.Common.{◌≡◌, ℕ, zero, suc, ◌<◌, ◌≤◌, ⊎_elim, Bool, true, false, cond, ◌&&◌}
 use Rattle.std.proofs.Common.{◌==◌, refl, sym, ap, ◌∙◌, subst, arith, true≢false, ltb, lt-suc_self}
-use Rattle.std.proofs.Common.{le_refl, eq-eqb}
+use Rattle.std.proofs.Common.{le_refl, eq-eqb, eqb-true}
 use Rattle.std.proofs.Math.Bool.{xor as bool_xor}
 use Rattle.std.proofs.lemmas.Bool.{lt-ltb, le-ltb, ltb-true, cases_lt, ne_eqb}
 use Rattle.sparse_rows.specs.Closure.{Set}
@@ -18,12 +18,12 @@ abbrev pub value : {G : Type 0} → G → (G → G → G) → ℕ → (ℕ → S
 value o add u bits pivot_row sum p x = add (sum (pivot_row p))
     (product o add u (behind bits pivot_row p) x)
 
--- the unknowns below n by their pivot rows, zero where one is free, and from n on what y gives
+-- the unknowns below n by their pivot rows, and what y gives where one is free, and from n on
 abbrev pub below : {G : Type 0} → G → (G → G → G) → ℕ → ℕ → (ℕ → Set) → (ℕ → ℕ) → (ℕ → G) → ℕ
     → (ℕ → G) → ℕ → G
 below o add u r bits pivot_row sum zero y = y
 below o add u r bits pivot_row sum (suc n) y = below o add u r bits pivot_row sum n
-    (λ c. cond (c == n) (cond (ltb (pivot_row n) r) (value o add u bits pivot_row sum n y) o) (y c))
+    (λ c. cond (c == n) (cond (ltb (pivot_row n) r) (value o add u bits pivot_row sum n y) (y n)) (y c))
 
 is_behind : (p c : ℕ) (b : Bool) → (ltb p c && b) ≡ true → p < c
 is_behind p c b e = ⊎_elim (λ lt. lt) (λ le. absurd (true≢false (sym e ∙ rw (le-ltb p c le) refl)))
@@ -59,6 +59,21 @@ module _ {G : Type 0} (o : G) (add : G → G → G) (laws : XorLaws G o add) (u 
     below_kept (suc n) y c le = below_kept n _ c (omega arith)
         ∙ rw (ne_eqb c n (λ e. omega (arith, e))) refl
 
+    -- a free unknown has what y gives
+    pub below_free : (n : ℕ) (y : ℕ → G) (p : ℕ) → r ≤ pivot_row p
+        → below o add u r bits pivot_row sum n y p ≡ y p
+    below_free zero y p free = refl
+    below_free (suc n) y p free = below_free n _ p free ∙ by_case (p == n) refl
+      where
+        by_case : (b : Bool) → (p == n) ≡ b
+            → cond b (cond (ltb (pivot_row n) r) (value o add u bits pivot_row sum n y) (y n)) (y p)
+            ≡ y p
+        by_case true e = subst
+            (λ q. cond (ltb (pivot_row q) r) (value o add u bits pivot_row sum n y) (y n) ≡ y p)
+            (eqb-true p n e)
+            (rw (le-ltb (pivot_row p) r free) (ap y (sym (eqb-true p n e))))
+        by_case false e = refl
+
     -- each unknown below n with a pivot row comes from it
     pub below_valued : (n : ℕ) (y : ℕ → G) (p : ℕ) → p < n → pivot_row p < r
         → below o add u r bits pivot_row sum n y p ≡ value o add u bits pivot_row sum p
@@ -71,8 +86,8 @@ module _ {G : Type 0} (o : G) (add : G → G → G) (laws : XorLaws G o add) (u 
         (λ lt2. below_valued n _ p lt2 pivot) (last_or_before p n lt)
       where
         now : ℕ → G
-        now c = cond (c == n) (cond (ltb (pivot_row n) r) (value o add u bits pivot_row sum n y) o)
-            (y c)
+        now c = cond (c == n) (cond (ltb (pivot_row n) r) (value o add u bits pivot_row sum n y)
+            (y n)) (y c)
 
         last : pivot_row n < r → below o add u r bits pivot_row sum (suc n) y n ≡ value o add u bits
             pivot_row sum n (below o add u r bits pivot_row sum (suc n) y)

@@ -95,14 +95,14 @@ module _ (u len r : ℕ) (first words : List ℕ) (sums : List (List ℕ)) (pivo
       leads packed st) (bits_of (width_of u) first) (bits_of (width_of u) words)
       (pivot_row r pivots) (lead_of u leads)
       (stage u len r first words sums pivots leads packed st) (as_first u len r first words sums
-      pivots leads packed st) sets f x rows_past low unled_eqs all_eqs back i lt
+      pivots leads packed st) sets f x rows_past low unled_eqs back i lt
 
   null_last : (i : ℕ) → i < sets → last_of (null_at i) ≡ f i
   null_last i lt = last (packed_system u len r first sums) (ok u len r first words sums pivots leads
       packed st) (bits_of (width_of u) first) (bits_of (width_of u) words) (pivot_row r pivots)
       (lead_of u leads)
       (stage u len r first words sums pivots leads packed st) (as_first u len r first words sums
-      pivots leads packed st) sets f x rows_past low unled_eqs all_eqs back i lt
+      pivots leads packed st) sets f x rows_past low unled_eqs back i lt
 
   null_every : (w : List ℕ) → IsReducedWord (IsNullSet (packed_system u len r first sums)) w
       → (i : ℕ) × (i < sets) × (null_at i ≡ w)
@@ -110,7 +110,7 @@ module _ (u len r : ℕ) (first words : List ℕ) (sums : List (List ℕ)) (pivo
       leads packed st) (bits_of (width_of u) first) (bits_of (width_of u) words)
       (pivot_row r pivots) (lead_of u leads)
       (stage u len r first words sums pivots leads packed st) (as_first u len r first words sums
-      pivots leads packed st) sets f x rows_past low unled_eqs all_eqs back w red
+      pivots leads packed st) sets f x rows_past low unled_eqs back all_eqs w red
 
   abbrev symbols : List (List ℕ)
   symbols = symbols_of len u values

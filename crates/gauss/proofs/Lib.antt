@@ -22,3 +22,4 @@ pub mod MaskBits
 pub mod FormParts
 pub mod NullSets
 pub mod Form
+pub mod FreeLasts

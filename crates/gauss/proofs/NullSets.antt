@@ -24,7 +24,7 @@ use Rattle.gauss.specs.Elimination.{product, Solves, IsStage, behind}
 use Rattle.gauss.specs.Reduction.{IsNullSet}
 use Rattle.gauss.proofs.Rows.{mask_of}
 use Rattle.gauss.proofs.Answered.{row_product, to_even}
-use Rattle.gauss.proofs.Back.{solution_values, value, values_solve}
+use Rattle.gauss.proofs.Back.{below, below_free, below_valued, solution_values, value, values_solve}
 use Rattle.gauss.proofs.Clearing.{and_no, xor_none}
 use Rattle.gauss.proofs.Products.{product_none, product_zero}
 use Rattle.gauss.proofs.Stages.{solves_same}
@@ -44,12 +44,12 @@ module _ (s : System) (ok : IsSystem s) (first now : ℕ → Set) (pivot_row lea
       (mask_of s.equations) first (λ j. false) (λ j. false) (is_in set) as_first (λ j lt2. refl)
       (to_even s ok set null))) p lt pivot
 
-  last_below : (set : List ℕ) → IsNullSet s set → last_of set < s.unknowns
+  pub last_below : (set : List ℕ) → IsNullSet s set → last_of set < s.unknowns
   last_below set null = in_all (λ c. c < s.unknowns) set null.below (last_of set)
       (last_in set null.nonempty)
 
   -- a null set ends at a free unknown
-  last_is_free : (set : List ℕ) → IsNullSet s set → length s.equations ≤ pivot_row (last_of set)
+  pub last_is_free : (set : List ℕ) → IsNullSet s set → length s.equations ≤ pivot_row (last_of set)
   last_is_free set null = ⊎_elim
       (λ pivot. absurd (true≢false (sym (last_in set null.nonempty)
       ∙ null_valued set null (last_of set) (last_below set null) pivot ∙ bit_laws.left _
@@ -68,8 +68,6 @@ module _ (s : System) (ok : IsSystem s) (first now : ℕ → Set) (pivot_row lea
       (past : (p c : ℕ) → length s.equations ≤ pivot_row p → now (pivot_row p) c ≡ false)
       (low : (i : ℕ) → i < sets → f i < s.unknowns) (free : (i : ℕ) → i < sets
       → length s.equations ≤ pivot_row (f i))
-      (all : (p : ℕ) → p < s.unknowns → length s.equations ≤ pivot_row p → (i : ℕ) × (i < sets)
-      × (f i ≡ p))
       (back : (i p : ℕ) → i < sets → p < s.unknowns
       → x i p ≡ bool_xor (p == f i) (product false bool_xor s.unknowns (behind now pivot_row p)
       (x i))) where
@@ -158,12 +156,41 @@ module _ (s : System) (ok : IsSystem s) (first now : ℕ → Set) (pivot_row lea
               (subst (λ p. length s.equations ≤ pivot_row p) late.2
               (last_is_free late.0 late.1))) ∙ w.1) ∙ sym last
 
-    pub every : (word : List ℕ) → IsReducedWord (IsNullSet s) word → (i : ℕ) × (i < sets)
+    -- where f gives all free unknowns there are no others
+    pub every : ((p : ℕ) → p < s.unknowns → length s.equations ≤ pivot_row p → (i : ℕ) × (i < sets)
+        × (f i ≡ p)) → (word : List ℕ) → IsReducedWord (IsNullSet s) word → (i : ℕ) × (i < sets)
         × (set i ≡ word)
-    every word red =
+    every all word red =
         let a = all (last_of word) (last_below word red.one) (last_is_free word red.one) in (
           a.0,
           a.1,
           reduced_is_one (IsNullSet s) (null_linear (matrix_of s) (λ c. false)) (set a.0)
               word (reduced a.0 a.1) red (last a.0 a.1 ∙ a.2),
         )
+
+  -- and at each free unknown one ends
+  pub free_is_last : ((p c : ℕ) → length s.equations ≤ pivot_row p → now (pivot_row p) c ≡ false)
+      → (p : ℕ) → p < s.unknowns → length s.equations ≤ pivot_row p → IsLate (IsNullSet s) p
+  free_is_last past p lt free = (
+    set 1 (λ i. p) (λ i. x) past (λ i lt2. lt) (λ i lt2. free) back 0,
+    (reduced 1 (λ i. p) (λ i. x) past (λ i lt2. lt) (λ i lt2. free) back 0 (omega arith)).one,
+    last 1 (λ i. p) (λ i. x) past (λ i lt2. lt) (λ i lt2. free) back 0 (omega arith),
+  )
+    where
+      x : Set
+      x = below false bool_xor s.unknowns (length s.equations) now pivot_row (λ j. false) s.unknowns
+          (λ c. c == p)
+
+      back : (i q : ℕ) → i < 1 → q < s.unknowns
+          → x q ≡ bool_xor (q == p) (product false bool_xor s.unknowns (behind now pivot_row q) x)
+      back i q lt2 lt3 = ⊎_elim
+          (λ pivot. below_valued false bool_xor bit_laws s.unknowns now pivot_row (λ j. false)
+          (length s.equations) s.unknowns (λ c. c == p) q lt3 pivot
+          ∙ ap (λ b. bool_xor b (product false bool_xor s.unknowns (behind now pivot_row q) x))
+          (sym (ne_eqb q p (λ e. let z = ap pivot_row e in omega (arith, z, pivot, free)))))
+          (λ le. below_free false bool_xor bit_laws s.unknowns now pivot_row (λ j. false)
+          (length s.equations) s.unknowns (λ c. c == p) q le
+          ∙ sym (ap (bool_xor (q == p)) (product_none false bool_xor bit_laws s.unknowns
+          (behind now pivot_row q) x (λ c lt4. ap (λ b. ltb q c && b) (past q c le)
+          ∙ and_no (ltb q c))) ∙ xor_none (q == p)))
+          (cases_lt (pivot_row q) (length s.equations))

@@ -30,7 +30,8 @@ use Rattle.gauss.specs.Elimination.{taken_in}
 use Rattle.gauss.specs.Echelon.{IsEliminated}
 use Rattle.gauss.specs.declared.answer.Answer.TheVariants as answer
 use Rattle.gauss.proofs.Words.{part_length, row_room}
-use Rattle.gauss.proofs.Answered.{answer_clash, answer_free, answer_one, values_are_solution}
+use Rattle.gauss.proofs.Answered.{answer_clash, answer_free, answer_one, some_solves}
+use Rattle.gauss.proofs.Answered.{values_are_solution}
 use Rattle.gauss.proofs.Back.{value}
 
 -- ---- symbols that lie one after the other
@@ -225,6 +226,11 @@ module _ (u len r : ℕ) (first words : List ℕ) (sums : List (List ℕ)) (pivo
             where
               pivot : (p : ℕ) → p < u → pivot_row r pivots p < r
               pivot p lt = all p (rw st.pivot_count lt)
+
+      -- some assignment solves it
+      pub read_some : (x : ℕ → List ℕ) × IsSolution s x
+      read_some = some_solves s ok (bits_of (width_of u) first) (bits_of (width_of u) words)
+          (pivot_row r pivots) (lead_of u leads) stage as_first rest
 
       -- the flagged unknowns
       pub read_free : (f : ℕ) → IsFirstFree r pivots f → (flags : List Bool)

@@ -12,3 +12,4 @@ pub mod Reduction
 pub mod Reductions
 pub mod Masks
 pub mod ReductionLaws
+pub mod Freedom

@@ -12,6 +12,7 @@ mod eliminate;
 mod eliminated;
 mod entries;
 mod equations;
+mod freedom;
 mod laws;
 mod masks;
 mod null_set;
@@ -26,6 +27,7 @@ mod values;
 
 pub use answer::{Answer, Values};
 pub use equations::Equations;
+pub use freedom::{FreeUnknowns, free_unknowns};
 pub use laws::{a_system_has_one_answer, reduced_sets_show_what_is_open};
 pub use reduced::Reduced;
 pub use reducing::{Reduction, reduce};

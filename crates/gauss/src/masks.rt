@@ -34,7 +34,7 @@ pub(crate) fn null_masks(alloc: Global, form: &Echelon<'_>) -> Result<Masks, NoM
     ensures { IfOk result (λ masks. AreNullMasks (bits_in form.now) form.now.rows
         form.now.pivots.now masks.sets masks.bytes.items) }
 {
-    let free = free_unknowns(alloc, form.rows, form.pivots)?;
+    let free = without_pivots(alloc, form.rows, form.pivots)?;
     let sets = free.len() as u32;
     let stride = stride_of(sets);
     let mut bytes = vec![in alloc; 0u8; form.pivots.len() * stride]?;
@@ -45,7 +45,11 @@ pub(crate) fn null_masks(alloc: Global, form: &Echelon<'_>) -> Result<Masks, NoM
 }
 
 // The unknowns without a pivot row.
-fn free_unknowns(alloc: Global, rows: usize, pivots: &[u32]) -> Result<Vec<u32>, NoMemory>
+pub(crate) fn without_pivots(
+    alloc: Global,
+    rows: usize,
+    pivots: &[u32],
+) -> Result<Vec<u32>, NoMemory>
     requires { length pivots.now ≤ 65536 }
     ensures { IfOk result (λ free. free.items ≡ free_unknowns rows pivots.now) }
 {

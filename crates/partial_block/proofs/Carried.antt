@@ -1,41 +1,19 @@
 -- Reduced null sets of the residue, and reduced null words of what arrived.
-use Rattle.std.proofs.Common.{◌≡◌, ◌≢◌, ℕ, ◌<◌, ◌≤◌, ⊎_elim, true, List, [], ◌∷◌, length}
-use Rattle.std.proofs.Common.{map, refl, sym, ap, ◌∙◌, subst, arith, slice_index}
-use Rattle.std.proofs.Common.{eqb-true, eq-eqb, ◌==◌}
+use Rattle.std.proofs.Common.{◌≡◌, ℕ, ◌<◌, ◌≤◌, ⊎_elim, true, List, length}
+use Rattle.std.proofs.Common.{sym, ap, ◌∙◌, subst, arith, slice_index}
 use Rattle.std.proofs.lemmas.Bool.{cases_lt}
 use Rattle.sparse_rows.specs.Matrix.{is_in}
 use Rattle.sparse_rows.specs.Codeword.{Arrival, positions}
 use Rattle.sparse_rows.specs.NullWord.{IsNullWord, last_of}
 use Rattle.sparse_rows.proofs.Null.{in_all}
-use Rattle.sparse_rows.proofs.Sets.{or_cases, or_first, or_second}
-use Rattle.null_witness.specs.ReducedWords.{IsFirstReducedWord, IsLate, IsReducedWord}
+use Rattle.null_witness.specs.ReducedWords.{IsFirstReducedWord, IsReducedWord}
 use Rattle.null_witness.proofs.Increasing.{last_in}
 use Rattle.peeling.specs.Decoder.{Decoder}
 use Rattle.gauss.specs.Reduction.{IsNullSet}
 use Rattle.fec_session.specs.Residue.{columns_at, place, places_of, residue, unknown_columns}
 use Rattle.fec_session.specs.NullPairing.{HasPlaces, IsNullPairing, IsUnknownColumn}
+use Rattle.fec_session.proofs.Verdicts.{in_map, last_map, map_in}
 use Rattle.partial_block.specs.Through.{IsThrough}
-
--- ---- lists
-
--- what a map holds comes from an item
-in_map : (f : ℕ → ℕ) (xs : List ℕ) (c : ℕ) → is_in (map f xs) c ≡ true
-    → (i : ℕ) × (is_in xs i ≡ true) × (f i ≡ c)
-in_map f [] c e = absurd (cc)
-in_map f (x ∷ xs) c e = ⊎_elim (λ g. (x, or_first (x == x) _ (eq-eqb x x refl), eqb-true (f x) c g))
-    (λ g. let r = in_map f xs c g in (r.0, or_second (x == r.0) _ r.1, r.2))
-    (or_cases (f x == c) _ e)
-
--- and it holds what comes from one
-map_in : (f : ℕ → ℕ) (xs : List ℕ) (i : ℕ) → is_in xs i ≡ true → is_in (map f xs) (f i) ≡ true
-map_in f [] i e = absurd (cc)
-map_in f (x ∷ xs) i e = ⊎_elim (λ g. or_first (f x == f i) _ (eq-eqb _ _ (ap f (eqb-true x i g))))
-    (λ g. or_second (f x == f i) _ (map_in f xs i g)) (or_cases (x == i) _ e)
-
-last_map : (f : ℕ → ℕ) (xs : List ℕ) → xs ≢ [] → last_of (map f xs) ≡ f (last_of xs)
-last_map f [] h = absurd (h refl)
-last_map f (x ∷ []) h = refl
-last_map f (x ∷ y ∷ ys) h = last_map f (y ∷ ys) (λ e. cc)
 
 -- ---- places and columns
 
@@ -81,27 +59,6 @@ module _ (d : Decoder) (places : HasPlaces d) (arrivals : List Arrival)
       subst (λ (c : ℕ). is_in word c ≡ true)
       (sym (places.same_column r.0 (word_unknown word null r.0 r.1)) ∙ ap (column d) r.2) r.1
 
-  -- where a null word ends, a null set ends at the place, and the other way round
-  late_place : (c : ℕ) → IsLate IsWord c → IsLate IsSet (place d c)
-  late_place c (word, null, ends) = (
-    places_of d word,
-    pairs.set word null,
-    last_map (place d) word null.nonempty
-        ∙ ap (place d) ends,
-  )
-
-  late_column : (i : ℕ) → IsLate IsSet i → IsLate IsWord (column d i)
-  late_column i (set, null, ends) = (
-    columns_at d set,
-    pairs.word set null,
-    last_map (column d) set null.nonempty
-        ∙ ap (column d) ends,
-  )
-
-  late_below : (i : ℕ) → IsLate IsSet i → i < length (unknown_columns d)
-  late_below i (set, null, ends) = subst (λ (j : ℕ). j < length (unknown_columns d)) ends
-      (set_below set null (last_of set) (last_in set null.nonempty))
-
   -- ---- reduced ones
 
   -- the columns at a reduced null set are a reduced null word
@@ -109,10 +66,10 @@ module _ (d : Decoder) (places : HasPlaces d) (arrivals : List Arrival)
   reduced_word set reduced = record {
     one = word;
     only = λ c late e.
-        let unknown = word_unknown (columns_at d set) word c e in
-        let at : place d c ≡ last_of set = reduced.only (place d c) (late_place c late)
+        let ends = (pairs.late_word c).0 late in
+        let at : place d c ≡ last_of set = reduced.only (place d c) ends.1
         (column_in set reduced.one c e) in
-        sym (places.same_column c unknown) ∙ ap (column d) at
+        sym (places.same_column c ends.0) ∙ ap (column d) at
         ∙ sym (last_map (column d) set reduced.one.nonempty);
   }
     where
@@ -124,9 +81,10 @@ module _ (d : Decoder) (places : HasPlaces d) (arrivals : List Arrival)
   reduced_set word reduced = record {
     one = pairs.set word reduced.one;
     only = λ i late e.
-        let at : column d i ≡ last_of word = reduced.only (column d i) (late_column i late)
+        let ends = (pairs.late_set i).0 late in
+        let at : column d i ≡ last_of word = reduced.only (column d i) ends.1
         (place_in word reduced.one i e) in
-        sym (places.same_place i (late_below i late)) ∙ ap (place d) at
+        sym (places.same_place i ends.0) ∙ ap (place d) at
         ∙ sym (last_map (place d) word reduced.one.nonempty);
   }
 

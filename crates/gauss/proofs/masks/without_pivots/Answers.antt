@@ -5,8 +5,8 @@ use Rattle.std.proofs.lemmas.List.{get_or_default}
 use Rattle.sparse_rows.specs.Closure.{Set, members}
 use Rattle.gauss.specs.Elimination.{pivot_row}
 use Rattle.gauss.proofs.Lists.{members_more}
-use Rattle.gauss.proofs.masks.free_unknowns.Goals as goal
-use Rattle.gauss.proofs.masks.free_unknowns.Goals.{then-pivots-p+in_ok-push, else-pivots-p}
+use Rattle.gauss.proofs.masks.without_pivots.Goals as goal
+use Rattle.gauss.proofs.masks.without_pivots.Goals.{then-pivots-p+in_ok-push, else-pivots-p}
 
 pub loop-p-preserved : goal.loop-p-preserved
 loop-p-preserved c =
