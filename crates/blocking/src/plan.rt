@@ -1,7 +1,7 @@
 // The source blocks of an object.
 ghost use Rattle.std.specs.Prelude.{◌≡◌, ◌<◌, ◌≤◌, ◌*◌, length, slice_index, sum, take, IfOk, OnOk};
 ghost use Rattle.std.specs.Prelude.{OnErr};
-ghost use Rattle.blocking.specs.Blocks.{block_count, block_sizes, scaled, size_2d};
+ghost use Rattle.blocking.specs.Blocks.{block_count, block_sizes, scaled, size_2d, size_2d_corner};
 
 use std::error::Error;
 use std::fmt;
@@ -131,4 +131,14 @@ pub fn size_2d(k: u32, width: u32) -> u64
     ensures { result ≡ size_2d k width }
 {
     k as u64 + k.div_ceil(width) as u64 + width.min(k) as u64
+}
+
+/// How many encoding symbols `k` source symbols in a grid of this width have with a corner, which
+/// is one repair symbol more: those of `size_2d`, and the corner.
+pub fn size_2d_corner(k: u32, width: u32) -> u64
+    requires some { 1 ≤ k }
+    requires wide { 1 ≤ width }
+    ensures { result ≡ size_2d_corner k width }
+{
+    size_2d(k, width) + 1
 }

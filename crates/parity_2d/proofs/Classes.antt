@@ -35,7 +35,7 @@ pub class_below : (class_of : ℕ → ℕ) (c i : ℕ) → All (λ x. x < c) (cl
 class_below class_of c i = All-filter (λ x. class_of x == i) (λ x. x < c) (range_with_len 0 c)
     (range_below c)
 
-range_more : (c : ℕ) → range_with_len 0 (c + 1) ≡ range_with_len 0 c ++ c ∷ []
+pub range_more : (c : ℕ) → range_with_len 0 (c + 1) ≡ range_with_len 0 c ++ c ∷ []
 range_more c = sym (map-id (range_with_len 0 (c + 1))) ∙ map-range_with_len_more (λ (x : ℕ). x) 0 c
     c (omega arith) ∙ ap (λ xs. xs ++ c ∷ []) (map-id (range_with_len 0 c))
 

@@ -4,3 +4,4 @@ pub mod Places
 pub mod Sources
 pub mod Parities
 pub mod Shape
+pub mod Corners
