@@ -30,7 +30,3 @@ scaled k most greatest_n = k * greatest_n / most
 -- symbols, a parity for each row of the grid, and one for each of its columns
 abbrev pub size_2d : ℕ → ℕ → ℕ
 size_2d k w = k + div_ceil k w + min w k
-
--- how many they have with a corner, the parity of all source symbols: one more
-abbrev pub size_2d_corner : ℕ → ℕ → ℕ
-size_2d_corner k w = size_2d k w + 1

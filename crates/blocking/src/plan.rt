@@ -1,7 +1,8 @@
 // The source blocks of an object.
 ghost use Rattle.std.specs.Prelude.{◌≡◌, ◌<◌, ◌≤◌, ◌*◌, length, slice_index, sum, take, IfOk, OnOk};
 ghost use Rattle.std.specs.Prelude.{OnErr};
-ghost use Rattle.blocking.specs.Blocks.{block_count, block_sizes, scaled, size_2d, size_2d_corner};
+ghost use Rattle.blocking.specs.Blocks.{block_count, block_sizes, scaled, size_2d};
+ghost use Rattle.blocking.specs.CornerSize.{size_2d_corner};
 
 use std::error::Error;
 use std::fmt;

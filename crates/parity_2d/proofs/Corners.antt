@@ -8,7 +8,8 @@ use Rattle.std.proofs.lemmas.List.{get_or_append_left, get_or_at}
 use Rattle.std.proofs.lemmas.List.FromFn.{length-map-range_with_len, get_or-map-range_with_len}
 use Rattle.std.proofs.lemmas.List.FromFn.{fill_by_all, map-range_with_len_more}
 use Rattle.blocking.specs.Blocks.{size_2d}
-use Rattle.parity_2d.specs.Grid.{grid_row, grid_column, grid_matrix, corner_matrix}
+use Rattle.parity_2d.specs.Grid.{grid_row, grid_column, grid_matrix}
+use Rattle.parity_2d.specs.Corner.{corner_matrix}
 use Rattle.parity_2d.specs.Filling.{grid_sources, matrix_of, source_rows, with_parities}
 use Rattle.parity_2d.proofs.Shape.{joined, length_joined, joined_left, joined_right, length_grid}
 use Rattle.parity_2d.proofs.Shape.{length_source_rows}

@@ -3,7 +3,7 @@ use Rattle.std.specs.Prelude.{ℕ, ◌+◌, ◌/◌, ◌%◌, ◌==◌, min, Lis
 use Rattle.std.specs.Int.{div_ceil}
 use Rattle.std.specs.List.{range_with_len}
 use Rattle.sparse_rows.specs.Matrix.{Matrix}
-use Rattle.blocking.specs.Blocks.{size_2d, size_2d_corner}
+use Rattle.blocking.specs.Blocks.{size_2d}
 
 -- the source symbols in row i of the grid
 abbrev pub grid_row : ℕ → ℕ → ℕ → List ℕ
@@ -24,12 +24,3 @@ grid_matrix k w =
       rows = map (λ i. grid_row k w i ++ (k + i) ∷ []) (range_with_len 0 a)
           ++ map (λ j. grid_column k w j ++ (k + a + j) ∷ []) (range_with_len 0 (min w k));
     }
-
--- the parity check matrix with a corner: the grid's rows and columns, and a last row of all source
--- symbols and the last column, which is the corner
-abbrev pub corner_matrix : ℕ → ℕ → Matrix
-corner_matrix k w = record {
-  k = k;
-  n = size_2d_corner k w;
-  rows = (grid_matrix k w).rows ++ (range_with_len 0 k ++ size_2d k w ∷ []) ∷ [];
-}

@@ -2,8 +2,10 @@
 ghost use Rattle.std.specs.Prelude.{◌≡◌, ◌≤◌, ◌<◌, ◌+◌, min, replicate, [], length, All, IfOk};
 ghost use Rattle.std.specs.Prelude.{OnOk};
 ghost use Rattle.std.specs.Int.{div_ceil};
-ghost use Rattle.blocking.specs.Blocks.{size_2d, size_2d_corner};
-ghost use Rattle.parity_2d.specs.Grid.{corner_matrix, grid_matrix};
+ghost use Rattle.blocking.specs.Blocks.{size_2d};
+ghost use Rattle.blocking.specs.CornerSize.{size_2d_corner};
+ghost use Rattle.parity_2d.specs.Grid.{grid_matrix};
+ghost use Rattle.parity_2d.specs.Corner.{corner_matrix};
 ghost use Rattle.parity_2d.specs.Filling.{matrix_of, source_rows, with_parities};
 
 use fec_base::NoMemory;
