@@ -1,7 +1,8 @@
 //! Tests of the decoders, over public calls alone: peeling, null words, elimination, the encoder of
-//! a block, cores, sessions and receivers, thresholds, partial blocks and proofs of contradiction,
-//! most of them over one code of three source and seven encoding symbols. It stands on their
-//! crates, and promises nothing: the tests stand apart so that no crate is proved again for them.
+//! a block, cores, sessions and receivers, thresholds, partial blocks, repair requests and proofs
+//! of contradiction, most of them over one code of three source and seven encoding symbols. It
+//! stands on their crates, and promises nothing: the tests stand apart so that no crate is proved
+//! again for them.
 #![tactic(auto)]
 
 #[cfg(test)]
@@ -28,5 +29,7 @@ mod peelers;
 mod prefixes;
 #[cfg(test)]
 mod receivers;
+#[cfg(test)]
+mod repair_requests;
 #[cfg(test)]
 mod sessions;
