@@ -55,6 +55,10 @@ fn five_symbols_in_width_three_with_a_corner(rt: HostRuntime) -> Result<(), Fail
 fn three_symbols_in_width_two_with_a_corner(rt: HostRuntime) -> Result<(), Fail> {
     let code = parity_2d_corner(rt.alloc(), 3, 2)?;
     assert!(rt; code.k() == 3 && code.n() == 8);
-    check_rows(&rt, &code, &[&[0, 1, 3], &[2, 4], &[0, 2, 5], &[1, 6], &[0, 1, 2, 7]]);
+    check_rows(
+        &rt,
+        &code,
+        &[&[0, 1, 3], &[2, 4], &[0, 2, 5], &[1, 6], &[0, 1, 2, 7]],
+    );
     Ok(())
 }
