@@ -163,10 +163,10 @@ pub ends_refusing : (due : Due) (refuses : Refuses) (front : List ℕ → Type 0
     → EndsBy (OrRefusal due refuses) front output output_now report report_now ended
 ends_refusing due refuses front output output_now report report_now ended refusal is out cause
     written told =
-        ends_other (OrRefusal due refuses) front output output_now report report_now ended
-        (λ done. no_other refusal ended status.Done is done)
-        (λ cut. no_other refusal ended status.WriteFault is cut) out (refusal_text refusal)
-        (inr (refusal, is, cause, refl)) written told
+    ends_other (OrRefusal due refuses) front output output_now report report_now ended
+    (λ done. no_other refusal ended status.Done is done)
+    (λ cut. no_other refusal ended status.WriteFault is cut) out (refusal_text refusal)
+    (inr (refusal, is, cause, refl)) written told
 
 module _ (due : Due) (refuses : Refusal → Type 0) (output report report_now : Stream)
     (ended : Status) where
