@@ -43,7 +43,7 @@ fn fault<T>(status: i32, text: impl Into<String>) -> Answer<T> {
 }
 
 fn usage<T>() -> Answer<T> {
-    fault(2, "usage\nusage: eperftool encode|decode|lose|show|perf [--name=value ...]")
+    fault(2, "usage\nusage: eperftool COMMAND [--name=value ...]")
 }
 
 fn main() {

@@ -397,7 +397,7 @@ fn statuses_have_their_numbers_and_texts(rt: HostRuntime) {
         (
             Status::Usage,
             2,
-            "fault: usage\nusage: eperftool encode|decode|lose|show|perf [--name=value ...]\n",
+            "fault: usage\nusage: eperftool COMMAND [--name=value ...]\n",
         ),
         (Status::ReadFault, 3, "fault: read\n"),
         (Status::WriteFault, 4, "fault: write\n"),

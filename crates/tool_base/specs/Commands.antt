@@ -5,9 +5,9 @@ use Rattle.std.specs.Str.{bytes_eq}
 use Rattle.tool_base.specs.Items.{Text}
 use Rattle.tool_base.specs.Options.{CommandOption, Given, options_given, takes_number, takes_range}
 use Rattle.tool_base.specs.Table.{block_option, codec_option, draws_option, early_option, k_option}
-use Rattle.tool_base.specs.Table.{loss_option, max_n_option, n1_option, n_option, order_option}
-use Rattle.tool_base.specs.Table.{packets_option, perf_symbol_option, run_seed_option, runs_option}
-use Rattle.tool_base.specs.Table.{seed_option, symbol_option, width_option}
+use Rattle.tool_base.specs.Table.{frame_symbol_option, loss_option, max_n_option, n1_option, n_option}
+use Rattle.tool_base.specs.Table.{order_option, packets_option, perf_symbol_option, run_seed_option}
+use Rattle.tool_base.specs.Table.{runs_option, seed_option, symbol_option, width_option}
 use Rattle.tool_base.specs.Given.{is_random, is_yes, loss_given, number_given, number_or, shape_of}
 use Rattle.tool_base.specs.Given.{symbols_given}
 use Rattle.tool_base.specs.declared.command.Command.{Command}
@@ -94,6 +94,18 @@ perf_of given =
     (is_random given) (number_or runs_option given) (number_or run_seed_option given))
     (symbols_given n_option shape k given)) (shape_of n_option given)
 
+-- the options of `frame` and of `unframe`
+abbrev pub frame_options : List CommandOption
+frame_options = takes_number frame_symbol_option ∷ []
+
+-- the `frame` that is given
+abbrev pub frame_of : Given → Command
+frame_of given = command.Frame (number_or frame_symbol_option given)
+
+-- the `unframe` that is given
+abbrev pub unframe_of : Given → Command
+unframe_of given = command.Unframe (number_or frame_symbol_option given)
+
 -- the command that its first word names
 abbrev pub command_word_of : Text → Option CommandWord
 command_word_of text =
@@ -102,6 +114,8 @@ command_word_of text =
     else if bytes_eq text (codes "lose") then Some word.Lose
     else if bytes_eq text (codes "show") then Some word.Show
     else if bytes_eq text (codes "perf") then Some word.Perf
+    else if bytes_eq text (codes "frame") then Some word.Frame
+    else if bytes_eq text (codes "unframe") then Some word.Unframe
     else None
 
 -- the command that the words after its first word ask for
@@ -111,6 +125,8 @@ command_after words word.Decode = option_map decode_of (options_given decode_opt
 command_after words word.Lose = option_map lose_of (options_given lose_options words)
 command_after words word.Show = option_map show_of (options_given show_options words)
 command_after words word.Perf = option_and_then perf_of (options_given perf_options words)
+command_after words word.Frame = option_map frame_of (options_given frame_options words)
+command_after words word.Unframe = option_map unframe_of (options_given frame_options words)
 
 -- the command that the words ask for; none where they are usage
 abbrev pub command_of : List Text → Option Command

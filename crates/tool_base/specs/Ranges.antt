@@ -51,6 +51,11 @@ pub record IsPerfInRange (shape : Shape) (symbol k n : ℕ) (kind : LossKind) (r
   pub run_seed_some : 1 ≤ run_seed
   pub run_seed_most : run_seed ≤ 2147483646
 
+-- the option of `frame` and `unframe` is in its range
+pub record IsFrameInRange (symbol : ℕ) : Type 0 where
+  pub symbol_room : 3 ≤ symbol
+  pub symbol_most : symbol ≤ 65535
+
 -- the options of a command are in their ranges
 abbrev pub IsInRange : Command → Type 0
 IsInRange (command.Encode shape symbol block max_n) = IsEncodeInRange shape symbol block max_n
@@ -59,3 +64,5 @@ IsInRange (command.Lose kind seed packets) = IsLoseInRange kind seed packets
 IsInRange (command.Show packets) = packets ≤ 16777216
 IsInRange (command.Perf shape symbol k n kind random runs run_seed) =
     IsPerfInRange shape symbol k n kind runs run_seed
+IsInRange (command.Frame symbol) = IsFrameInRange symbol
+IsInRange (command.Unframe symbol) = IsFrameInRange symbol

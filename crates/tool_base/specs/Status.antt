@@ -9,8 +9,7 @@ use Rattle.tool_base.specs.declared.status.Status.TheVariants.{Undetermined, NoC
 abbrev pub fault_text : Status → List ℕ
 fault_text Done = []
 fault_text Memory = codes "fault: memory\n"
-fault_text Usage = codes
-    "fault: usage\nusage: eperftool encode|decode|lose|show|perf [--name=value ...]\n"
+fault_text Usage = codes "fault: usage\nusage: eperftool COMMAND [--name=value ...]\n"
 fault_text ReadFault = codes "fault: read\n"
 fault_text WriteFault = codes "fault: write\n"
 fault_text Malformed = []

@@ -33,6 +33,10 @@ symbol_option = numbers_or (codes "symbol") 1 65535 1024
 abbrev pub perf_symbol_option : NumberOption
 perf_symbol_option = numbers_or (codes "symbol") 1 65535 16
 
+-- the length of a symbol in bytes, for `frame` and `unframe`
+abbrev pub frame_symbol_option : NumberOption
+frame_symbol_option = numbers_or (codes "symbol") 3 65535 1024
+
 -- the greatest number of source symbols of a block
 abbrev pub block_option : NumberOption
 block_option = numbers_or (codes "block") 1 65536 1000

@@ -4,15 +4,16 @@ ghost use Rattle.tool_base.specs.Reading.{given_of, listed};
 ghost use Rattle.tool_base.specs.Commands.{decode_of, decode_options, encode_of};
 ghost use Rattle.tool_base.specs.Ranges.{IsInRange};
 ghost use Rattle.tool_base.specs.Commands.{encode_options, lose_of, lose_options, perf_of};
-ghost use Rattle.tool_base.specs.Commands.{perf_options, show_of, show_options};
+ghost use Rattle.tool_base.specs.Commands.{frame_of, frame_options, perf_options, show_of};
+ghost use Rattle.tool_base.specs.Commands.{show_options, unframe_of};
 
 use crate::given::{
     is_random, is_yes, loss_given, number_given, number_or, shape_given, symbols_given,
 };
 use crate::options::OptionRow;
 use crate::table::{
-    BLOCK, CODEC, DRAWS, EARLY, K, LOSS, MAX_N, N, N1, ORDER, PACKETS, PERF_SYMBOL, RUN_SEED, RUNS,
-    SEED, SYMBOL, WIDTH,
+    BLOCK, CODEC, DRAWS, EARLY, FRAME_SYMBOL, K, LOSS, MAX_N, N, N1, ORDER, PACKETS, PERF_SYMBOL,
+    RUN_SEED, RUNS, SEED, SYMBOL, WIDTH,
 };
 use clap::ArgMatches;
 use loss_patterns::LossKind;
@@ -89,6 +90,16 @@ pub enum Command {
         runs: u32,
         /// The seed of all draws but the code's, from 1 to 2,147,483,646.
         run_seed: u32,
+    },
+    /// Makes a frame of each datagram of a stream.
+    Frame {
+        /// The length of a frame in bytes, from 3 to 65,535.
+        symbol: u32,
+    },
+    /// Makes a stream of the datagrams of frames.
+    Unframe {
+        /// The length of a frame in bytes, from 3 to 65,535.
+        symbol: u32,
     },
 }
 
@@ -219,4 +230,31 @@ pub fn read_perf(given: &ArgMatches) -> Option<Command>
         runs: number_or(given, &RUNS),
         run_seed: number_or(given, &RUN_SEED),
     })
+}
+
+// The options of `frame` and of `unframe`.
+pub fn frame_options() -> [OptionRow; 1]
+    ensures { map listed result ≡ frame_options }
+{
+    [FRAME_SYMBOL.row()]
+}
+
+// The `frame` that is given.
+pub fn read_frame(given: &ArgMatches) -> Command
+    ensures value { result ≡ frame_of (given_of given.now) }
+    ensures in_range { IsInRange result }
+{
+    Command::Frame {
+        symbol: number_or(given, &FRAME_SYMBOL),
+    }
+}
+
+// The `unframe` that is given.
+pub fn read_unframe(given: &ArgMatches) -> Command
+    ensures value { result ≡ unframe_of (given_of given.now) }
+    ensures in_range { IsInRange result }
+{
+    Command::Unframe {
+        symbol: number_or(given, &FRAME_SYMBOL),
+    }
 }

@@ -44,9 +44,7 @@ impl Status {
     {
         match self {
             Status::Memory => "fault: memory\n",
-            Status::Usage => {
-                "fault: usage\nusage: eperftool encode|decode|lose|show|perf [--name=value ...]\n"
-            }
+            Status::Usage => "fault: usage\nusage: eperftool COMMAND [--name=value ...]\n",
             Status::ReadFault => "fault: read\n",
             Status::WriteFault => "fault: write\n",
             Status::WatchFault => "fault: watch\n",

@@ -64,6 +64,16 @@ pub const PERF_SYMBOL: NumberRow = NumberRow {
     default: 16,
 };
 
+// The length of a symbol in bytes, for `frame` and `unframe`.
+pub const FRAME_SYMBOL: NumberRow = NumberRow {
+    range: RangeRow {
+        name: "symbol",
+        low: 3,
+        high: 65_535,
+    },
+    default: 1024,
+};
+
 // The greatest number of source symbols of a block.
 pub const BLOCK: NumberRow = NumberRow {
     range: RangeRow {

@@ -5,8 +5,8 @@ ghost use Rattle.tool_base.specs.Ranges.{IsInRange};
 
 use crate::Command;
 use crate::command::{
-    decode_options, encode_options, lose_options, perf_options, read_decode, read_encode,
-    read_lose, read_perf, read_show, show_options,
+    decode_options, encode_options, frame_options, lose_options, perf_options, read_decode,
+    read_encode, read_frame, read_lose, read_perf, read_show, read_unframe, show_options,
 };
 use crate::options::read_options;
 use fec_base::{NoMemory, Words};
@@ -56,6 +56,8 @@ enum CommandWord {
     Lose,
     Show,
     Perf,
+    Frame,
+    Unframe,
 }
 
 // The command that the word names.
@@ -76,6 +78,12 @@ fn read_command_word(word: &str) -> Option<CommandWord>
     }
     if word == "perf" {
         return Some(CommandWord::Perf);
+    }
+    if word == "frame" {
+        return Some(CommandWord::Frame);
+    }
+    if word == "unframe" {
+        return Some(CommandWord::Unframe);
     }
     None
 }
@@ -106,6 +114,14 @@ fn read_after(alloc: Global, word: CommandWord, words: &[&str]) -> Result<Option
         },
         CommandWord::Perf => match read_options(alloc, &perf_options(), words)? {
             Some(given) => Ok(read_perf(&given)),
+            None => Ok(None),
+        },
+        CommandWord::Frame => match read_options(alloc, &frame_options(), words)? {
+            Some(given) => Ok(Some(read_frame(&given))),
+            None => Ok(None),
+        },
+        CommandWord::Unframe => match read_options(alloc, &frame_options(), words)? {
+            Some(given) => Ok(Some(read_unframe(&given))),
             None => Ok(None),
         },
     }

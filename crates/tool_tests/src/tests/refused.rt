@@ -145,7 +145,7 @@ fn the_first_fault_of_a_file_is_reported(rt: HostRuntime) -> Result<(), Fail> {
 #[test]
 fn words_that_mean_no_command_are_usage(rt: HostRuntime) -> Result<(), Fail> {
     let usage = "fault: usage\n\
-        usage: eperftool encode|decode|lose|show|perf [--name=value ...]\n";
+        usage: eperftool COMMAND [--name=value ...]\n";
     let cases: [&[&str]; 17] = [
         &[],
         &["pack"],
