@@ -1,6 +1,8 @@
 -- What a run does, by what its words ask for.
 use Rattle.std.proofs.Common.{◌≡◌, [], ℕ, inl, inr, refl, arith, Option, Some, None}
 use Rattle.std.proofs.KnownBytes.{Appends-nil, Consumes-nil}
+use Rattle.datagram_pass.specs.declared.kind.Way.{Way}
+use Rattle.datagram_pass.specs.declared.kind.Way.TheVariants.{Framing, Unframing}
 use Rattle.packet_pass.specs.declared.kind.Pass.{Pass}
 use Rattle.packet_pass.specs.declared.kind.Pass.TheVariants.{Lose, Show}
 use Rattle.tool_base.specs.Status.{fault_text}
@@ -14,7 +16,8 @@ use Rattle.tool_commands.specs.PassRun.{IsPassRun}
 use Rattle.tool_commands.specs.Run.{IsCommandRun, IsUsageRun}
 use Rattle.tool_base.specs.Written.{IsTold}
 use Rattle.tool_base.specs.declared.causes.Refusal.TheVariants.{Memory}
-use Rattle.tool_base.proofs.Endings.{ends_refused}
+use Rattle.tool_base.proofs.Endings.{ends_refused, ends_refusing}
+use Rattle.tool_reach.specs.DatagramRun.{IsDatagramRun}
 use Rattle.tool_commands.proofs.PassRuns.{pass_refused}
 use Rattle.object_file.proofs.Telling.{keeps_same}
 
@@ -43,6 +46,14 @@ module _ (before : Streams) (report : Stream) where
       pass_refused pass most before after ended Memory is []
       (refl, inl (Consumes-nil before.input.bytes)) (Appends-nil before.output.bytes) told
 
+  -- nor does one over datagrams
+  datagrams_out : (way : Way) (symbol : ℕ) (ended : Status) → ended ≡ status.Memory
+      → IsTold (fault_text status.Memory) before.report report
+      → IsDatagramRun way symbol before after ended
+  datagrams_out way symbol ended is told =
+      ends_refusing _ _ _ before.output before.output before.report report ended Memory is []
+      (refl, refl) (Appends-nil before.output.bytes) told
+
   -- and any command ends so
   pub runs_out : (watch : Hearing) (asked : Option Command) (ended : Status) → ended ≡ status.Memory
       → IsTold (fault_text status.Memory) before.report report
@@ -65,3 +76,7 @@ module _ (before : Streams) (report : Stream) where
         ends = ends_refused _ _ before.output before.report report ended Memory is tt told;
         quiet = λ done. absurd (cc (is, done));
       }
+  runs_out watch (Some (command.Frame symbol)) ended is told = datagrams_out Framing symbol ended is
+      told
+  runs_out watch (Some (command.Unframe symbol)) ended is told = datagrams_out Unframing symbol
+      ended is told

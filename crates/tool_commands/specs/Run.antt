@@ -1,5 +1,6 @@
 -- What a run does.
 use Rattle.std.specs.Prelude.{Bool, List, None, Option, Some, ℕ, ◌≡◌, ◌≢◌, ◌⊎◌}
+use Rattle.datagram_pass.specs.declared.kind.Way.TheVariants.{Framing, Unframing}
 use Rattle.packet_pass.specs.declared.kind.Pass.TheVariants.{Lose, Show}
 use Rattle.tool_base.specs.Commands.{command_of}
 use Rattle.tool_base.specs.Status.{fault_text}
@@ -12,6 +13,7 @@ use Rattle.tool_base.specs.Outside.{Streams}
 use Rattle.tool_commands.specs.PassRun.{IsPassRun}
 use Rattle.tool_commands.specs.PerfRun.{IsPerfRun}
 use Rattle.tool_base.specs.Written.{IsTold}
+use Rattle.tool_reach.specs.DatagramRun.{IsDatagramRun}
 use Rattle.tool_base.specs.declared.command.Command.TheVariants as command
 use Rattle.tool_base.specs.declared.status.Status.TheVariants as status
 
@@ -43,6 +45,10 @@ IsCommandRun (Some (command.Perf shape symbol k n loss random runs seed)) before
       n = n;
       plan = record { symbol = symbol; loss = loss; random = random; runs = runs; seed = seed };
     }) before after ended
+IsCommandRun (Some (command.Frame symbol)) before after watch watch_now ended =
+    IsDatagramRun Framing symbol before after ended
+IsCommandRun (Some (command.Unframe symbol)) before after watch watch_now ended =
+    IsDatagramRun Unframing symbol before after ended
 
 -- what a run does: what the words ask for
 abbrev pub IsRun : List (List ℕ) → Streams → Streams → Hearing → Hearing → Status → Type 0

@@ -22,3 +22,4 @@ mod DecodedFiles
 mod CleanDecodes
 mod EncodedThenDecoded
 mod Lossy
+pub mod CleanFrames

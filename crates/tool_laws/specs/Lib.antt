@@ -3,3 +3,4 @@ pub mod RoundTrip
 pub mod RunLaws
 pub mod PerfLaws
 pub mod LossLaws
+pub mod FrameLaws

@@ -1,4 +1,6 @@
 // Laws over the definitions alone.
+ghost use Rattle.tool_laws.specs.FrameLaws.{DatagramsAreRun, DatagramsComeBack};
+ghost use Rattle.tool_laws.specs.FrameLaws.{UnframeUndoesFrame};
 ghost use Rattle.tool_laws.specs.Laws.{DecodingIsOne, EncodingIsOne, PacketFileHasNoFault};
 ghost use Rattle.tool_laws.specs.Laws.{PacketFileIsOne};
 ghost use Rattle.tool_laws.specs.LossLaws.{LossLeavesPacketFile, LostIsNeverDecodedWrong};
@@ -10,6 +12,7 @@ ghost use Rattle.tool_laws.specs.RoundTrip.{NeverToldWrong, OutcomesGoBySet};
 ghost use Rattle.tool_laws.specs.RunLaws.{ChosenAreDecoded, EncodedIsDecoded, ObjectIsEncoded};
 ghost use Rattle.tool_laws.specs.RunLaws.{PacketFileIsDecoded, PacketFileIsPassed};
 
+use datagram_pass::datagrams_are_passed;
 use loss_runs::each_run_has_a_result;
 use null_witness::{null_words_follow_the_closure, null_words_show_what_is_open};
 use packet_file::headers_and_packets_have_one_spelling;
@@ -186,4 +189,30 @@ pub fn what_is_left_is_never_decoded_wrong()
     null_words_follow_the_closure();
     null_words_hold_a_source_symbol();
     null_words_show_what_is_open();
+}
+
+/// A `frame` of a stream of datagrams, and an `unframe` of their frames, refuses nothing, within the
+/// limits and where nothing outside fails: what goes for the datagrams is written, and their number
+/// is reported; or memory lacks.
+pub fn datagrams_are_run()
+    ensures { DatagramsAreRun }
+{
+    datagrams_are_passed();
+}
+
+/// `unframe` undoes `frame`: of the frames that a `frame` wrote it writes the stream that was read,
+/// where nothing outside fails; or memory lacks.
+pub fn unframe_undoes_frame()
+    ensures { UnframeUndoesFrame }
+{
+    datagrams_are_passed();
+}
+
+/// Frames are an object like any other: of packets by which a `decode` of their packet file comes
+/// to its end, an `unframe` of its output gives the stream of datagrams back.
+pub fn datagrams_come_back()
+    ensures { DatagramsComeBack }
+{
+    unframe_undoes_frame();
+    chosen_packets_are_decoded();
 }

@@ -13,6 +13,7 @@ mod decodes;
 mod digests;
 mod encodes;
 mod examples;
+mod frames;
 mod passes;
 mod perf;
 mod refused;

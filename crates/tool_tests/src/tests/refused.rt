@@ -146,7 +146,7 @@ fn the_first_fault_of_a_file_is_reported(rt: HostRuntime) -> Result<(), Fail> {
 fn words_that_mean_no_command_are_usage(rt: HostRuntime) -> Result<(), Fail> {
     let usage = "fault: usage\n\
         usage: eperftool COMMAND [--name=value ...]\n";
-    let cases: [&[&str]; 17] = [
+    let cases: [&[&str]; 19] = [
         &[],
         &["pack"],
         &["encode", "--symbol=0"],
@@ -164,6 +164,8 @@ fn words_that_mean_no_command_are_usage(rt: HostRuntime) -> Result<(), Fail> {
         &["decode", "--early", "--packets=3"],
         &["perf", "--k=3", "--k=3"],
         &["perf", "--k=8", "--n=7"],
+        &["frame", "--symbol=2"],
+        &["unframe", "--symbol=65536"],
     ];
     for words in cases {
         // The first read of this input would be a fault.

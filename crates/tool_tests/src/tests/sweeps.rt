@@ -170,7 +170,7 @@ fn an_input_that_fails_within_the_third_packet_tells_nothing(rt: HostRuntime) ->
 }
 
 // An output that fails at any byte holds what stands before it.
-fn check_outputs(
+pub fn check_outputs(
     rt: &impl Abort,
     alloc: Global,
     words: &[&str],
@@ -198,7 +198,7 @@ fn check_outputs(
 }
 
 // A report that fails at any byte holds what stands before it, and the output is whole.
-fn check_reports(
+pub fn check_reports(
     rt: &impl Abort,
     alloc: Global,
     words: &[&str],
@@ -312,7 +312,7 @@ fn check_unread(rt: &impl Abort, alloc: Global, chunk: usize) -> Result<(), Fail
 }
 
 // The input fails behind so many bytes: the output has this text.
-fn check_failing_input(
+pub fn check_failing_input(
     rt: &impl Abort,
     alloc: Global,
     words: &[&str],

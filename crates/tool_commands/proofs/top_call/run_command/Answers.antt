@@ -51,3 +51,15 @@ returns-in-Perf-clause-runs g c =
       ends = run.ends;
       quiet = λ done. ap (λ r. stream (g.R.Sink.held r) (g.R.Sink.faults r)) (run.quiet done);
     })
+
+pub returns-in-Frame-clause-runs : goal.returns-in-Frame-clause-runs
+returns-in-Frame-clause-runs g c =
+    let asked = command.Frame c.in-Frame.symbol in
+    let is : Some c.args.command ≡ Some asked = search rules in
+    runs_asked _ _ _ _ _ (Some c.args.command) (Some asked) is c.frame-status.ensures
+
+pub returns-in-Unframe-clause-runs : goal.returns-in-Unframe-clause-runs
+returns-in-Unframe-clause-runs g c =
+    let asked = command.Unframe c.in-Unframe.symbol in
+    let is : Some c.args.command ≡ Some asked = search rules in
+    runs_asked _ _ _ _ _ (Some c.args.command) (Some asked) is c.unframe-status.ensures
