@@ -62,6 +62,24 @@ echo '  a fifth of the packets lost'
 lose --loss=even:200 --seed=2
 decode some
 
+# frames COUNT: a datagram stream, of as many datagrams of 0 to 1,021 bytes.
+frames() {
+    python3 - "$1" > stream <<'PYTHON'
+import random, sys
+
+chance = random.Random(1)
+for _ in range(int(sys.argv[1])):
+    length = chance.randint(0, 1021)
+    sys.stdout.buffer.write(b"\7" + length.to_bytes(2, "big") + chance.randbytes(length))
+PYTHON
+}
+
+echo '65,536 datagrams of 0 to 1,021 bytes, in symbols of 1,024: 64 MiB'
+frames $((65536 / share))
+"$program" frame < stream > packets 2> told
+alone stream frame
+alone packets unframe
+
 echo '16 MiB, --symbol=16 --block=10000'
 object 16777216
 encode --symbol=16 --block=10000

@@ -3,10 +3,13 @@
 
     datagrams.py send HOST PORT          reads a packet file, sends its header often, and each packet once
     datagrams.py receive PORT SECONDS    writes what comes as a packet file, until nothing has come for so long
+    datagrams.py stream COUNT            writes a datagram stream: so many datagrams of 0 to 253 bytes, of four flows
+    datagrams.py same STREAM STREAM      compares two datagram streams, one datagram after the other
 
 A header has 26 bytes and begins with OFPK, which no packet's identifier does. Datagrams of another length are
 dropped: they are no packets of this file.
 """
+import random
 import socket
 import sys
 import time
@@ -60,10 +63,38 @@ def receive(port, seconds):
     print(f"came {came}", file=sys.stderr)
 
 
+def stream(count):
+    chance = random.Random(1)
+    for _ in range(count):
+        length = chance.randint(0, 253)
+        sys.stdout.buffer.write(bytes([chance.randrange(4)]) + length.to_bytes(2, "big") + chance.randbytes(length))
+
+
+def datagrams(path):
+    """The datagrams of a stream, each with its flow."""
+    with open(path, "rb") as file:
+        while head := file.read(3):
+            yield head[0], file.read(int.from_bytes(head[1:], "big"))
+
+
+def same(one, other):
+    sent, came = list(datagrams(one)), list(datagrams(other))
+    for number, (ours, theirs) in enumerate(zip(sent, came)):
+        if ours != theirs:
+            sys.exit(f"datagram {number} is another one")
+    if len(sent) != len(came):
+        sys.exit(f"{len(sent)} datagrams were sent, and {len(came)} came")
+    print(f"The {len(sent)} datagrams came through, each with its flow and its length.")
+
+
 if __name__ == "__main__":
     if sys.argv[1:2] == ["send"] and len(sys.argv) == 4:
         send(sys.argv[2], int(sys.argv[3]))
     elif sys.argv[1:2] == ["receive"] and len(sys.argv) == 4:
         receive(int(sys.argv[2]), float(sys.argv[3]))
+    elif sys.argv[1:2] == ["stream"] and len(sys.argv) == 3:
+        stream(int(sys.argv[2]))
+    elif sys.argv[1:2] == ["same"] and len(sys.argv) == 4:
+        same(sys.argv[2], sys.argv[3])
     else:
         sys.exit(__doc__)

@@ -178,6 +178,31 @@ def worked_runs():
     ]
 
 
+def stream_of(lengths, chance):
+    """A datagram stream: a flow, a length in two bytes, and so many bytes, for each length."""
+    return b"".join(chance.randbytes(1) + n.to_bytes(2, "big") + chance.randbytes(n) for n in lengths)
+
+
+def frame_runs():
+    """Datagrams into frames and back: some, many, and such as are refused."""
+    chance = random.Random(2)
+    some = stream_of([0, 1, 37, 37, 0, 5, 30], chance)
+    many = stream_of([chance.randint(0, 1021) for _ in range(400)], chance)
+    short, long = ["--symbol=40"], ["--symbol=1024"]
+    frames = answer(Run("", ["frame", *short], some)).output
+    changed = frames[:-1] + b"\1"
+    return [
+        Run("frame", ["frame", *short], some),
+        Run("frame, much", ["frame", *long], many),
+        Run("frame, a cut datagram", ["frame", *short], some[:-1]),
+        Run("frame, a long datagram", ["frame", "--symbol=39"], some),
+        Run("unframe", ["unframe", *short], frames),
+        Run("unframe, much", ["unframe", *long], answer(Run("", ["frame", *long], many)).output),
+        Run("unframe, a cut frame", ["unframe", *short], frames[:-1]),
+        Run("unframe, padding", ["unframe", *short], changed),
+    ]
+
+
 def all_runs():
     """The runs that meet with faults. A further command is one line more."""
     chance = random.Random(1)
@@ -215,4 +240,4 @@ def all_runs():
         Run("show", ["show"], file),
         Run("show, too many packets", ["show", "--packets=9"], file),
         Run("perf", ["perf", "--k=200", "--symbol=1", "--loss=even:250", "--runs=6"], b""),
-    ] + worked_runs()
+    ] + frame_runs() + worked_runs()

@@ -43,7 +43,7 @@ class Case(NamedTuple):
 def read_failed(run, taken):
     """The input fails after so many bytes: what the packets that came whole have brought by then stays."""
     came = answer(Run(run.name, run.words, run.data[:taken]))
-    output = came.output if run.words[0] in ("lose", "show") else b""
+    output = came.output if run.words[0] in ("lose", "show", "frame", "unframe") else b""
     return Answer(3, output, told_lines(came.report) + READ)
 
 
@@ -347,6 +347,13 @@ def over_zeros(run, size):
         return got, file.tell() <= 268_435_456 + 65_536 + 262_144
 
 
+def long_frames(_):
+    """Frames are more than an object may be long: as many as may be are written, and one more is read."""
+    run = Run("long frames", ["unframe", "--symbol=65535"], b"")
+    right = Answer(7, bytes(3 * 4096), b"fault: limit length\n")
+    yield Case(run, "frames of 1 GiB", partial(over_zeros, run, 1 << 30), (right, True))
+
+
 def handed_back(_):
     """Each request for memory of the example of the library is refused in turn. Where that hands its session back, it
     asks once more, and then prints all that it prints where nothing is refused."""
@@ -375,6 +382,7 @@ KINDS = {
     "memory": little_memory,
     "refused": refused_memory,
     "long": long_objects,
+    "framed": long_frames,
     "back": handed_back,
 }
 

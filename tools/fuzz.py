@@ -7,9 +7,10 @@ First come runs that were worked out by hand and the packet files of tools/vecto
 processors: which cases they are goes by the seed alone.
 
 Each case is an `encode` of a random object with random words, and a `decode`, a `lose` and a `show` of its packet
-file after packets were lost, repeated, shuffled, changed or cut, or header bytes were changed; and a `perf` with random
-words. Output, report and status have to be those of the second reading. A difference is printed with its words and its
-input in hexadecimal, and ends the run with status 1. EPERFTOOL names another program than build/eperftool.
+file after packets were lost, repeated, shuffled, changed or cut, or header bytes were changed; a `frame` of a random
+datagram stream, and an `unframe` of random frames, changed or cut at times; and a `perf` with random words. Output,
+report and status have to be those of the second reading. A difference is printed with its words and its input in
+hexadecimal, and ends the run with status 1. EPERFTOOL names another program than build/eperftool.
 """
 import collections
 import hashlib
@@ -182,6 +183,16 @@ def check_extra_columns_by_hand(seen):
     check(words, b"\x01\x02", wanted, seen)
 
 
+def check_frames_by_hand(seen):
+    """Two datagrams in frames of six bytes, as docs/FORMAT.md has them, and back; and frames that are none."""
+    stream, frames = bytes.fromhex("07 00 02 aa bb 01 00 00"), bytes.fromhex("07 00 02 aa bb 00 01 00 00 00 00 00")
+    check(["frame", "--symbol=6"], stream, (0, frames, "datagrams 2\n"), seen)
+    check(["unframe", "--symbol=6"], frames, (0, stream, "datagrams 2\n"), seen)
+    for spelled, fault in (("07 00 04 aa bb 00", "length 4"), ("07 00 01 aa bb 00", "padding")):
+        check(["unframe", "--symbol=6"], bytes.fromhex(spelled), (5, b"", f"fault: symbol 0 {fault}\n"), seen)
+    check(["frame", "--symbol=4"], stream[:5], (5, b"", "fault: datagram 0 long 2\n"), seen)
+
+
 def check_vectors(seen):
     """The packet files of tools/vectors/encodes.txt, which a second implementation computed."""
     for line in (pathlib.Path(__file__).parent / "vectors" / "encodes.txt").read_text().splitlines():
@@ -228,6 +239,36 @@ def check_file(chance, file, symbol, seen):
     check(["show", f"--packets={most}"], file, expected(reading.show, file, most), seen)
 
 
+def random_stream(chance, size):
+    """Datagrams, each behind its flow and its length, of which seldom one is longer than a frame of `size` bytes holds."""
+    stream = b""
+    for _ in range(chance.choice([0, 1, 2, chance.randint(0, 12)])):
+        most = size - 3 + (chance.random() < 0.05)
+        length = chance.choice([0, most, chance.randint(0, most)])
+        stream += chance.randbytes(1) + length.to_bytes(2, "big") + chance.randbytes(length)
+    return stream
+
+
+def hurt(chance, data):
+    """Bytes of which at times one is changed, or the last ones are lost."""
+    if data and chance.random() < 0.3:
+        data = bytearray(data)
+        data[chance.randrange(len(data))] ^= 1 << chance.randrange(8)
+    return bytes(data[: chance.randint(0, len(data))] if chance.random() < 0.2 else data)
+
+
+def check_datagrams(chance, seen):
+    """A datagram stream in frames, and frames that were hurt or not, back into datagrams."""
+    size = chance.choice([3, 4, 5, 6, 16, chance.randint(3, 300)])
+    stream, words = random_stream(chance, size), [f"--symbol={size}"]
+    whole = expected(reading.frame, stream, size)
+    if not whole[0]:
+        check(["unframe", *words], whole[1], expected(reading.unframe, whole[1], size), seen)
+    stream, frames = hurt(chance, stream), hurt(chance, whole[1])
+    check(["frame", *words], stream, expected(reading.frame, stream, size), seen)
+    check(["unframe", *words], frames, expected(reading.unframe, frames, size), seen)
+
+
 def check_cases(seed, first, count):
     """Some cases, as their seed and the number of the first decide. Says how many runs ended with each status."""
     chance, seen = random.Random(f"{seed} {first}"), collections.Counter()
@@ -240,6 +281,7 @@ def check_cases(seed, first, count):
         )
         if not status:
             check_file(chance, file, header.symbol, seen)
+        check_datagrams(chance, seen)
         words, given = random_perf(chance)
         check(["perf", *words], b"", expected(reading.perf, **given), seen)
     return seen
@@ -253,6 +295,7 @@ def main():
     try:
         check_perf_by_hand(seen)
         check_extra_columns_by_hand(seen)
+        check_frames_by_hand(seen)
         check_vectors(seen)
         with multiprocessing.Pool() as processes:
             for of_part in processes.starmap(check_cases, parts, chunksize=1):

@@ -4,8 +4,8 @@
     pages.py [PAGE ..]
 
 A command is an indented line that begins with `$ `; the indented lines behind it are what it prints, to either stream.
-The commands of a page run one after the other by one shell, in a folder of their own where build/ is this repository's
-and `eperftool` on the PATH is build/eperftool. `make` isn't run. A difference is printed, and ends with status 1. So is a
+The commands of a page run one after the other by one shell, in a folder of their own where build/ and demo/ are this
+repository's and `eperftool` on the PATH is build/eperftool. `make` isn't run. A difference is printed, and ends with status 1. So is a
 row of docs/pictures/needed.dat that the guide's table hasn't.
 """
 import os
@@ -37,7 +37,8 @@ def printed(all_commands):
     """What each of the commands prints."""
     script = "exec 2>&1\n" + "".join(f"{command}\necho '{END}'\n" for command in all_commands)
     with tempfile.TemporaryDirectory() as folder:
-        os.symlink(TOP / "build", f"{folder}/build")
+        for name in ("build", "demo"):
+            os.symlink(TOP / name, f"{folder}/{name}")
         path = {"PATH": f"{TOP}/build:{os.environ['PATH']}"}
         done = subprocess.run(
             ["bash", "-c", script], cwd=folder, env=os.environ | path, stdout=subprocess.PIPE, text=True, check=False

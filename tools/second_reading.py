@@ -1,7 +1,7 @@
 """A plain, slow second reading of docs/FORMAT.md, docs/CODES.md and docs/COMMANDS.md: what each command gives.
 
-`encode`, `decode`, `lose`, `show` and `perf` answer status, output and report, or raise `Ends` with them. No code of
-the program is used here, and no table of it: tools/fuzz.py and tools/faults.py hold the program against this.
+`encode`, `decode`, `lose`, `show`, `frame`, `unframe` and `perf` answer status, output and report, or raise `Ends` with
+them. No code of the program is used here, and no table of it: tools/fuzz.py holds the program against this.
 """
 import bisect
 
@@ -334,6 +334,56 @@ def show(data, most):
     except Ends as end:
         raise Ends(end.status, end.report, text.encode()) from None
     return 0, text.encode(), ""
+
+
+# ---- datagrams
+
+MOST_FRAMED = 268435456
+
+
+def frame(data, size):
+    """A datagram stream, cut into datagrams, each in a frame of so many bytes."""
+    at, count, out = 0, 0, b""
+
+    def fault(status, words):
+        return Ends(status, f"fault: {words}\n", out)
+
+    while head := data[at : at + 3]:
+        if len(head) < 3:
+            raise fault(5, f"datagram {count} short {len(head)}")
+        if (count + 1) * size > MOST_FRAMED:
+            raise fault(7, "limit length")
+        length = int.from_bytes(head[1:], "big")
+        if length > size - 3:
+            raise fault(5, f"datagram {count} long {length}")
+        datagram = data[at : at + 3 + length]
+        if len(datagram) < 3 + length:
+            raise fault(5, f"datagram {count} short {len(datagram)}")
+        out += datagram.ljust(size, b"\0")
+        at, count = at + 3 + length, count + 1
+    return 0, out, f"datagrams {count}\n"
+
+
+def unframe(data, size):
+    """Frames of so many bytes, and the datagram stream of what they hold."""
+    count, out = 0, b""
+
+    def fault(status, words):
+        return Ends(status, f"fault: {words}\n", out)
+
+    while symbol := data[count * size : (count + 1) * size]:
+        if (count + 1) * size > MOST_FRAMED:
+            raise fault(7, "limit length")
+        if len(symbol) < size:
+            raise fault(5, f"symbol {count} short {len(symbol)}")
+        length = int.from_bytes(symbol[1:3], "big")
+        if length > size - 3:
+            raise fault(5, f"symbol {count} length {length}")
+        if any(symbol[3 + length :]):
+            raise fault(5, f"symbol {count} padding")
+        out += symbol[: 3 + length]
+        count += 1
+    return 0, out, f"datagrams {count}\n"
 
 
 # ---- perf
