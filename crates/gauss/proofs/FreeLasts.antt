@@ -57,12 +57,14 @@ module _ (u len r : ℕ) (first words : List ℕ) (sums : List (List ℕ)) (pivo
               sums pivots leads packed st) rows_past p
               (in_all (λ d. d < u) (members u is_free) (members_below u is_free) p e)
               (rw count_is (unled p (passes is_free (range_with_len 0 u) p e))),
-          λ late. let low = last_below (packed_system u len r first sums) (ok u len r first words sums
+          λ late. let low = last_below
+              (packed_system u len r first sums) (ok u len r first words sums
               pivots leads packed st) (bits_of (width_of u) first) (bits_of (width_of u) words)
               (pivot_row r pivots) (lead_of u leads)
               (stage u len r first words sums pivots leads packed st) (as_first u len r first words
               sums pivots leads packed st) late.0 late.1 in
-              let free = last_is_free (packed_system u len r first sums) (ok u len r first words sums
+              let free = last_is_free
+              (packed_system u len r first sums) (ok u len r first words sums
               pivots leads packed st) (bits_of (width_of u) first) (bits_of (width_of u) words)
               (pivot_row r pivots) (lead_of u leads)
               (stage u len r first words sums pivots leads packed st) (as_first u len r first words

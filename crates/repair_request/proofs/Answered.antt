@@ -44,7 +44,8 @@ part_counts m s part rest d settles = record {
 
 -- what is late after further arrivals was late before
 pub late_shrink : (m : Matrix) (s : Set) (more late later : List ℕ) → AreLate (IsNullWord m s) late
-    → AreLate (IsNullWord m (together s more)) later → (p : ℕ) → is_in later p ≡ true → is_in late p ≡ true
+    → AreLate (IsNullWord m (together s more)) later → (p : ℕ) → is_in later p ≡ true
+    → is_in late p ≡ true
 late_shrink m s more late later h g p e =
     let l = (g.each p).0 e in
     (h.each p).1 (l.0, together_null m s more l.0 l.1, l.2)

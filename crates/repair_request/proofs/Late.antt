@@ -60,7 +60,8 @@ module _ (m : Matrix) (s : Set) where
     );
   }
 
-  pub late_is_one : (late other : List ℕ) → AreLate (IsNullWord m s) late → AreLate (IsNullWord m s) other → other ≡ late
+  pub late_is_one : (late other : List ℕ) → AreLate (IsNullWord m s) late
+      → AreLate (IsNullWord m s) other → other ≡ late
   late_is_one late other h g = rising_same other late g.rising h.rising (λ c. same_test _ _
       (λ e. (h.each c).1 ((g.each c).0 e)) (λ e. (g.each c).1 ((h.each c).0 e)))
 
@@ -73,7 +74,8 @@ module _ (m : Matrix) (s : Set) where
       ∙ together_lacks m s late word null (last_of word) last)
 
   -- with no null word nothing is late
-  none_late : ((word : List ℕ) → ¬ IsWord word) → (late : List ℕ) → AreLate (IsNullWord m s) late → late ≡ []
+  none_late : ((word : List ℕ) → ¬ IsWord word) → (late : List ℕ)
+      → AreLate (IsNullWord m s) late → late ≡ []
   none_late none [] h = refl
   none_late none (p ∷ late) h =
       let l = (h.each p).0 (or_first (p == p) _ (eq-eqb p p refl)) in

@@ -18,7 +18,8 @@ EachSetHasLate = (m : Matrix) (s : Set) → (late : List ℕ) × AreLate (IsNull
 
 -- they settle the block
 abbrev pub LateSettle : Type 0
-LateSettle = (m : Matrix) (s : Set) (late : List ℕ) → AreLate (IsNullWord m s) late → Settles m s late
+LateSettle = (m : Matrix) (s : Set) (late : List ℕ) → AreLate (IsNullWord m s) late
+    → Settles m s late
 
 -- and no fewer positions do
 abbrev pub LateAreFewest : Type 0
