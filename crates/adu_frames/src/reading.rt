@@ -1,6 +1,7 @@
 // Symbols that are read as frames.
 ghost use Rattle.std.specs.Prelude.{◌≡◌, ◌+◌, ◌≤◌, ◌↔◌, length, replicate, true, IfOk, IfErr};
-ghost use Rattle.adu_frames.specs.Faults.{HasFrameFault, IsFrame};
+ghost use Rattle.adu_frames.specs.Faults.{HasFrameFault};
+ghost use Rattle.adu_frames.specs.Reading.{IsFrame};
 
 use crate::HEAD_LEN;
 use std::error::Error;

@@ -2,7 +2,7 @@
 ghost use Rattle.std.specs.Prelude.{◌≡◌, ◌<◌, ◌≤◌, ◌+◌, ◌*◌, ℕ, List, [], length, take};
 ghost use Rattle.std.specs.Prelude.{true, false, Ok, None, Option, IfOk, IfErr, IfSome, OnOk};
 ghost use Rattle.std.specs.Io.KnownBytes.{Consumes, IsAtEnd};
-ghost use Rattle.adu_frames.specs.Faults.{IsFrame, datagram_in};
+ghost use Rattle.adu_frames.specs.Reading.{IsFrame, datagram_in};
 ghost use Rattle.datagram_pass.specs.Faults.{HasDatagramFault};
 ghost use Rattle.datagram_pass.specs.Progress.{EndsReading, IsHead, TakesOne};
 ghost use Rattle.datagram_pass.specs.declared.kind.Way.TheVariants.{Framing, Unframing};

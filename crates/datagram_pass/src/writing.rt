@@ -3,7 +3,7 @@ ghost use Rattle.std.specs.Prelude.{◌≡◌, ◌≤◌, ◌+◌, length, take,
 ghost use Rattle.std.specs.Io.KnownBytes.{Appends};
 ghost use Rattle.fec_base.specs.Bytes.{AppendsFront};
 ghost use Rattle.fec_base.specs.Causes.{HasCause};
-ghost use Rattle.adu_frames.specs.Faults.{IsFrame, datagram_in};
+ghost use Rattle.adu_frames.specs.Reading.{IsFrame, datagram_in};
 ghost use Rattle.adu_frames.specs.Frames.{datagram_bytes, frame_bytes};
 
 use adu_frames::{Frame, HEAD_LEN, write_frame};
