@@ -36,11 +36,7 @@ fn datagrams_are_framed_and_come_back(rt: HostRuntime) -> Result<(), Fail> {
 fn faulty_symbols_are_no_frames(rt: HostRuntime) -> Result<(), Fail> {
     let alloc = rt.alloc();
     let cases: [(&[u8], &[u8], &str); 4] = [
-        (
-            &[7, 0, 4, 0xaa, 0xbb, 0],
-            &[],
-            "fault: symbol 0 length 4\n",
-        ),
+        (&[7, 0, 4, 0xaa, 0xbb, 0], &[], "fault: symbol 0 length 4\n"),
         (&[7, 0, 1, 0xaa, 0xbb, 0], &[], "fault: symbol 0 padding\n"),
         (&[7, 0, 1], &[], "fault: symbol 0 short 3\n"),
         (
@@ -164,7 +160,15 @@ fn check_failing_inputs(rt: &impl Abort, alloc: Global, chunk: usize) -> Result<
         } else {
             8
         };
-        check_failing_input(rt, alloc, &UNFRAME, &FRAMES, stop, chunk, &STREAM[..written])?;
+        check_failing_input(
+            rt,
+            alloc,
+            &UNFRAME,
+            &FRAMES,
+            stop,
+            chunk,
+            &STREAM[..written],
+        )?;
     }
     Ok(())
 }
