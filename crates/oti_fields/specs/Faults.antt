@@ -1,8 +1,9 @@
 -- What may be wrong with the fields of the transmission information.
 use Rattle.std.specs.Prelude.{ℕ, ◌==◌, ◌&&◌, not, nat_lt, nat_le, if◌then◌else◌, Option, Some, None}
-use Rattle.blocking.specs.Blocks.{size_2d}
+use Rattle.std.specs.Prelude.{false}
+use Rattle.std.specs.Option.{option_map_or}
+use Rattle.oti_fields.specs.Grids.{grid_size, is_grid}
 use Rattle.oti_fields.specs.declared.codec.Codec.{Codec}
-use Rattle.oti_fields.specs.declared.codec.Codec.TheVariants.{Staircase, Triangle, Parity2d}
 use Rattle.oti_fields.specs.declared.oti.Oti.{Oti}
 use Rattle.oti_fields.specs.declared.check.FieldFault.{FieldFault}
 use Rattle.oti_fields.specs.declared.check.FieldFault.TheVariants.{SymbolZero, GroupNotOne}
@@ -27,17 +28,16 @@ seed_fault oti = if nat_le 1 oti.seed && nat_le oti.seed 2147483646 then None el
 
 -- the width of a grid stands in the place of the seed; N1 isn't used, and the greatest n follows
 -- from the others
-abbrev pub grid_fault : Oti → Option FieldFault
-grid_fault oti =
+abbrev pub grid_fault : Codec → Oti → Option FieldFault
+grid_fault codec oti =
     if oti.seed == 0 then Some WidthZero
-    else if (oti.n1m3 == 0) && (oti.max_n == size_2d oti.block oti.seed) then None
+    else if (oti.n1m3 == 0) && option_map_or (λ n. oti.max_n == n)
+    (grid_size codec oti.block oti.seed) false then None
     else Some NotFixed
 
 -- the first fault of the fields that only some codecs have
 abbrev pub codec_fault : Codec → Oti → Option FieldFault
-codec_fault Staircase oti = seed_fault oti
-codec_fault Triangle oti = seed_fault oti
-codec_fault Parity2d oti = grid_fault oti
+codec_fault codec oti = if is_grid codec then grid_fault codec oti else seed_fault oti
 
 -- the first fault of the fields, if there is one
 abbrev pub field_fault : Codec → Oti → Option FieldFault

@@ -4,6 +4,7 @@ use Rattle.std.specs.Prelude.{ℕ, ◌+◌, ◌*◌, ◌^◌, ◌<◌, List, ◌
 use Rattle.byteorder.specs.Endian.{big_bytes}
 use Rattle.oti_fields.specs.declared.codec.Codec.{Codec}
 use Rattle.oti_fields.specs.declared.codec.Codec.TheVariants.{Staircase, Triangle, Parity2d}
+use Rattle.oti_fields.specs.declared.codec.Codec.TheVariants.{Corner2d}
 use Rattle.oti_fields.specs.declared.oti.Oti.{Oti}
 use Rattle.oti_fields.specs.declared.identifier.PacketId.{PacketId}
 
@@ -12,6 +13,7 @@ abbrev pub codec_number : Codec → ℕ
 codec_number Staircase = 3
 codec_number Triangle = 4
 codec_number Parity2d = 200
+codec_number Corner2d = 201
 
 -- each field fits into its bits
 pub record FitsBits (oti : Oti) : Type 0 where

@@ -1,3 +1,4 @@
 pub mod Fields
+pub mod Grids
 pub mod Faults
 pub mod Laws

@@ -4,7 +4,6 @@ ghost use Rattle.oti_fields.specs.Fields.{FitsBits};
 ghost use Rattle.oti_fields.specs.Faults.{fault_number, field_fault, grid_fault, seed_fault};
 
 use crate::{Codec, Oti};
-use blocking::size_2d;
 use park_miller::MAX_SEED;
 use std::error::Error;
 use std::fmt;
@@ -81,9 +80,10 @@ pub fn check_oti(codec: Codec, oti: &Oti) -> Result<(), FieldFault>
     if oti.max_n > 65_536 {
         return Err(FieldFault::MaxTooLarge);
     }
-    match codec {
-        Codec::Staircase | Codec::Triangle => check_seed(oti),
-        Codec::Parity2d => check_grid(oti),
+    if codec.is_grid() {
+        check_grid(codec, oti)
+    } else {
+        check_seed(oti)
     }
 }
 
@@ -99,16 +99,16 @@ fn check_seed(oti: &Oti) -> Result<(), FieldFault>
 }
 
 // What a grid leaves no choice of is as it must be.
-fn check_grid(oti: &Oti) -> Result<(), FieldFault>
+fn check_grid(codec: Codec, oti: &Oti) -> Result<(), FieldFault>
     requires block { 1 ≤ oti.now.block }
-    ensures ok { OnOk result (grid_fault oti.now ≡ None) }
-    ensures err { IfErr result (λ fault. grid_fault oti.now ≡ Some fault) }
+    ensures ok { OnOk result (grid_fault codec oti.now ≡ None) }
+    ensures err { IfErr result (λ fault. grid_fault codec oti.now ≡ Some fault) }
 {
     if oti.seed == 0 {
         return Err(FieldFault::WidthZero);
     }
-    if oti.n1m3 != 0 || oti.max_n as u64 != size_2d(oti.block, oti.seed) {
-        return Err(FieldFault::NotFixed);
+    match codec.grid_size(oti.block, oti.seed) {
+        Some(n) if oti.n1m3 == 0 && oti.max_n as u64 == n => Ok(()),
+        _ => Err(FieldFault::NotFixed),
     }
-    Ok(())
 }

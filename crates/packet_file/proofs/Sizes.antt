@@ -11,11 +11,14 @@ use Rattle.std.proofs.lemmas.List.Elements.{All-append, All-replicate, All-head,
 use Rattle.std.proofs.lemmas.List.Elements.{All-get_or}
 use Rattle.std.specs.List.{list_any}
 use Rattle.blocking.specs.Blocks.{size_2d}
+use Rattle.blocking.specs.CornerSize.{size_2d_corner}
 use Rattle.blocking.specs.Blocks.{block_count, scaled, spread, symbol_total}
 use Rattle.blocking.proofs.Spread.{ceil_most, ceil_room, sizes_in_range}
-use Rattle.oti_fields.specs.Faults.{codec_fault, field_fault, grid_fault}
+use Rattle.oti_fields.specs.Faults.{codec_fault, field_fault}
+use Rattle.oti_fields.specs.Grids.{grid_size}
 use Rattle.oti_fields.specs.declared.codec.Codec.{Codec}
 use Rattle.oti_fields.specs.declared.codec.Codec.TheVariants.{Staircase, Triangle, Parity2d}
+use Rattle.oti_fields.specs.declared.codec.Codec.TheVariants.{Corner2d}
 use Rattle.oti_fields.specs.declared.check.FieldFault.TheVariants.{SymbolZero, GroupNotOne}
 use Rattle.oti_fields.specs.declared.check.FieldFault.TheVariants.{BlockZero, MaxBelowBlock}
 use Rattle.oti_fields.specs.declared.check.FieldFault.TheVariants.{MaxTooLarge}
@@ -29,7 +32,8 @@ pub record HasSizes (codec : Codec) (oti : Oti) : Type 0 where
   pub block : 1 ≤ oti.block
   pub within : oti.block ≤ oti.max_n
   pub most : oti.max_n ≤ 65536
-  pub grid : codec ≡ Parity2d → (1 ≤ oti.seed) × (oti.max_n ≡ size_2d oti.block oti.seed)
+  pub seed : 1 ≤ oti.seed
+  pub grid : (n : ℕ) → grid_size codec oti.block oti.seed ≡ Some n → oti.max_n ≡ n
 
 -- where a list of faults says none, its first test failed, and so did the others
 pub passed : {F : Type 0} (test : Bool) (fault : F) (rest : Option F)
@@ -37,10 +41,20 @@ pub passed : {F : Type 0} (test : Bool) (fault : F) (rest : Option F)
 passed true fault rest is = absurd (cc)
 passed false fault rest is = (refl, is)
 
+-- the seed, or the width, of fields without a fault isn't 0
+seed_some : (codec : Codec) (oti : Oti) → codec_fault codec oti ≡ None → 1 ≤ oti.seed
+seed_some Staircase oti is = search rules
+seed_some Triangle oti is = search rules
+seed_some Parity2d oti is = search rules
+seed_some Corner2d oti is = search rules
+
 -- what a grid without a fault has
-grid_is : (oti : Oti) → grid_fault oti ≡ None
-    → (1 ≤ oti.seed) × (oti.max_n ≡ size_2d oti.block oti.seed)
-grid_is oti is = search rules
+grid_is : (codec : Codec) (oti : Oti) (n : ℕ) → codec_fault codec oti ≡ None
+    → grid_size codec oti.block oti.seed ≡ Some n → oti.max_n ≡ n
+grid_is Staircase oti n is size = absurd (cc)
+grid_is Triangle oti n is size = absurd (cc)
+grid_is Parity2d oti n is size = search rules
+grid_is Corner2d oti n is size = search rules
 
 pub fields_have_sizes : (codec : Codec) (oti : Oti) → field_fault codec oti ≡ None
     → HasSizes codec oti
@@ -55,8 +69,8 @@ fields_have_sizes codec oti is =
       block = some oti.block block.0;
       within = ltb-false oti.max_n oti.block within.0;
       most = ltb-false 65536 oti.max_n most.0;
-      grid = λ is_grid. grid_is oti (subst (λ (c : Codec). codec_fault c oti ≡ None) is_grid
-          most.1);
+      seed = seed_some codec oti most.1;
+      grid = λ n size. grid_is codec oti n most.1 size;
     }
   where
     some : (n : ℕ) → (n == 0) ≡ false → 1 ≤ n
@@ -92,7 +106,9 @@ pub symbols_grow : (codec : Codec) (oti : Oti) (a b : ℕ) → HasSizes codec ot
     → symbols_by codec oti a ≤ symbols_by codec oti b
 symbols_grow Staircase oti a b sizes less = scaled_grow a b oti.block oti.max_n sizes.block less
 symbols_grow Triangle oti a b sizes less = scaled_grow a b oti.block oti.max_n sizes.block less
-symbols_grow Parity2d oti a b sizes less = size_smaller a b oti.seed (sizes.grid refl).0 less
+symbols_grow Parity2d oti a b sizes less = size_smaller a b oti.seed sizes.seed less
+symbols_grow Corner2d oti a b sizes less = omega
+    (arith, size_smaller a b oti.seed sizes.seed less)
 
 -- a block has at least its source symbols
 pub symbols_least : (codec : Codec) (oti : Oti) (k : ℕ) → HasSizes codec oti
@@ -100,14 +116,17 @@ pub symbols_least : (codec : Codec) (oti : Oti) (k : ℕ) → HasSizes codec oti
 symbols_least Staircase oti k sizes = scaled_least k oti.block oti.max_n sizes.block sizes.within
 symbols_least Triangle oti k sizes = scaled_least k oti.block oti.max_n sizes.block sizes.within
 symbols_least Parity2d oti k sizes = omega arith
+symbols_least Corner2d oti k sizes = omega arith
 
 -- and at most the greatest n
 pub symbols_most : (codec : Codec) (oti : Oti) (k : ℕ) → HasSizes codec oti → k ≤ oti.block
     → symbols_by codec oti k ≤ oti.max_n
 symbols_most Staircase oti k sizes less = scaled_most k oti.block oti.max_n less
 symbols_most Triangle oti k sizes less = scaled_most k oti.block oti.max_n less
-symbols_most Parity2d oti k sizes less = let grid = sizes.grid refl in
-    omega (arith, size_smaller k oti.block oti.seed grid.0 less, grid.1)
+symbols_most Parity2d oti k sizes less = omega (arith, size_smaller k oti.block oti.seed sizes.seed
+    less, sizes.grid (size_2d oti.block oti.seed) refl)
+symbols_most Corner2d oti k sizes less = omega (arith, size_smaller k oti.block oti.seed sizes.seed
+    less, sizes.grid (size_2d_corner oti.block oti.seed) refl)
 
 -- no item passes the test
 none_any : (test : ℕ → Bool) (xs : List ℕ) → All (λ x. test x ≡ false) xs → list_any test xs ≡ false

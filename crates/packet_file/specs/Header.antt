@@ -1,13 +1,12 @@
 -- The header of a packet file, version 1, and the blocks that it speaks of.
 use Rattle.std.specs.Prelude.{◌≡◌, ℕ, ◌*◌, Bool, nat_lt, if◌then◌else◌, List, ◌∷◌, ◌++◌, Option}
-use Rattle.std.specs.Prelude.{Some, None, map, sum, codes}
+use Rattle.std.specs.Prelude.{Some, None, map, sum, codes, unwrap_or}
 use Rattle.std.specs.List.{list_any}
-use Rattle.blocking.specs.Blocks.{size_2d}
 use Rattle.blocking.specs.Blocks.{block_count, block_sizes, scaled}
 use Rattle.oti_fields.specs.Fields.{FitsBits, codec_number, oti_bytes}
 use Rattle.oti_fields.specs.Faults.{field_fault}
+use Rattle.oti_fields.specs.Grids.{grid_size}
 use Rattle.oti_fields.specs.declared.codec.Codec.{Codec}
-use Rattle.oti_fields.specs.declared.codec.Codec.TheVariants.{Staircase, Triangle, Parity2d}
 use Rattle.oti_fields.specs.declared.oti.Oti.{Oti}
 use Rattle.packet_file.specs.declared.fault.Limit.TheVariants.{Length, BlockBytes, AllSymbols}
 use Rattle.packet_file.specs.declared.fault.Limit.TheVariants.{AllBytes}
@@ -27,11 +26,10 @@ header_bytes h = codes "OFPK" ++ 1 ∷ codec_number h.codec ∷ 0 ∷ 0 ∷ oti_
 abbrev pub source_counts : HeaderFields → List ℕ
 source_counts h = block_sizes h.oti.length h.oti.symbol h.oti.block
 
--- how many encoding symbols a block of k source symbols has, by the codec
+-- how many encoding symbols a block of k source symbols has: those of its grid, or else in the
+-- proportion of the greatest n to the greatest block
 abbrev pub symbols_by : Codec → Oti → ℕ → ℕ
-symbols_by Staircase oti k = scaled k oti.block oti.max_n
-symbols_by Triangle oti k = scaled k oti.block oti.max_n
-symbols_by Parity2d oti k = size_2d k oti.seed
+symbols_by codec oti k = unwrap_or (grid_size codec k oti.seed) (scaled k oti.block oti.max_n)
 
 -- how many encoding symbols a block of k source symbols of the file has
 abbrev pub symbol_count : HeaderFields → ℕ → ℕ

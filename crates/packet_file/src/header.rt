@@ -9,7 +9,7 @@ ghost use Rattle.packet_file.specs.Packets.{block_symbols};
 ghost use Rattle.blocking.specs.Blocks.{block_count};
 
 use crate::{FileFault, Limit};
-use blocking::{Plan, TooManyBlocks, ldpc_n, size_2d};
+use blocking::{Plan, TooManyBlocks, ldpc_n};
 use oti_fields::{Codec, Oti};
 use std::marker::Model;
 
@@ -134,9 +134,9 @@ fn count_symbols(codec: Codec, oti: &Oti, k: u32) -> u32
     ensures least { k ≤ result }
     ensures most { result ≤ 65536 }
 {
-    match codec {
-        Codec::Staircase | Codec::Triangle => ldpc_n(k, oti.block, oti.max_n),
-        Codec::Parity2d => size_2d(k, oti.seed) as u32,
+    match codec.grid_size(k, oti.seed) {
+        Some(n) => n as u32,
+        None => ldpc_n(k, oti.block, oti.max_n),
     }
 }
 

@@ -4,6 +4,7 @@ use Rattle.std.specs.Fmt.{decimal}
 use Rattle.hex.specs.Hex.{encode_lower}
 use Rattle.oti_fields.specs.declared.codec.Codec.{Codec}
 use Rattle.oti_fields.specs.declared.codec.Codec.TheVariants.{Staircase, Triangle, Parity2d}
+use Rattle.oti_fields.specs.declared.codec.Codec.TheVariants.{Corner2d}
 use Rattle.oti_fields.specs.declared.oti.Oti.{Oti}
 use Rattle.packet_file.specs.Header.{HeaderFields, source_counts}
 use Rattle.packet_file.specs.Packets.{Packet}
@@ -15,6 +16,7 @@ codec_text Staircase oti = codes "codec staircase n1 " ++ decimal (oti.n1m3 + 3)
 codec_text Triangle oti = codes "codec triangle n1 " ++ decimal (oti.n1m3 + 3)
     ++ codes " seed " ++ decimal oti.seed
 codec_text Parity2d oti = codes "codec 2d width " ++ decimal oti.seed
+codec_text Corner2d oti = codes "codec 2d-corner width " ++ decimal oti.seed
 
 -- the line of a header: its code, its fields, and the number of its source blocks
 abbrev pub header_line : HeaderFields → List ℕ

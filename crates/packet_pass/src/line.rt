@@ -110,6 +110,7 @@ fn put_code(line: &mut Line, codec: Codec, oti: &Oti)
             line.put_field(" seed ", seed);
         }
         Codec::Parity2d => line.put_field("codec 2d width ", seed),
+        Codec::Corner2d => line.put_field("codec 2d-corner width ", seed),
     }
 }
 

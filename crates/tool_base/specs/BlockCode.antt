@@ -1,11 +1,14 @@
 -- The code of a source block, of a file or by itself. Which code a codec builds is told apart here,
 -- and nowhere above.
-use Rattle.std.specs.Prelude.{ℕ, ◌+◌, ◌-◌, ◌*◌, Option, Some, None}
+use Rattle.std.specs.Prelude.{ℕ, ◌+◌, ◌-◌, ◌*◌, Option, Some, None, if◌then◌else◌}
 use Rattle.parity_2d.specs.Grid.{grid_matrix}
+use Rattle.parity_2d.specs.Corner.{corner_matrix}
 use Rattle.staircase.specs.Staircase.{CountedMatrix, staircase_matrix}
 use Rattle.triangle.specs.Triangle.{triangle_matrix}
+use Rattle.oti_fields.specs.Grids.{is_grid}
 use Rattle.oti_fields.specs.declared.codec.Codec.{Codec}
 use Rattle.oti_fields.specs.declared.codec.Codec.TheVariants.{Staircase, Triangle, Parity2d}
+use Rattle.oti_fields.specs.declared.codec.Codec.TheVariants.{Corner2d}
 use Rattle.packet_file.specs.Header.{HeaderFields, symbol_count}
 use Rattle.tool_base.specs.declared.command.Shape.{Shape}
 
@@ -18,15 +21,10 @@ abbrev pub limit_by : Option ℕ → ℕ → ℕ → ℕ → ℕ
 limit_by (Some draws) n1 k n = draws
 limit_by None n1 k n = 64 * (n1 * k + 2 * (n - k)) + 65536
 
--- what a codec keeps in a header's last field: the seed of the generator, or the width of the grid
-abbrev pub seed_by : Codec → Shape → ℕ
-seed_by Staircase shape = shape.seed
-seed_by Triangle shape = shape.seed
-seed_by Parity2d shape = shape.width
-
--- what the header of a file of this code has in its last field
+-- what the header of a file of this code has in its last field: the width of the grid, or the seed
+-- of the generator
 abbrev pub seed_field : Shape → ℕ
-seed_field shape = seed_by shape.codec shape
+seed_field shape = if is_grid shape.codec then shape.width else shape.seed
 
 -- the matrix that a codec gives a block of k source and n encoding symbols; `field` is the seed of
 -- the generator, or the width of the grid, from which n follows
@@ -34,6 +32,7 @@ abbrev pub matrix_by : Codec → ℕ → ℕ → Option ℕ → ℕ → ℕ → 
 matrix_by Staircase n1 field draws k n = staircase_matrix k n n1 field (limit_by draws n1 k n)
 matrix_by Triangle n1 field draws k n = triangle_matrix k n n1 field (limit_by draws n1 k n)
 matrix_by Parity2d n1 field draws k n = Some (record { matrix = grid_matrix k field; draws = 0 })
+matrix_by Corner2d n1 field draws k n = Some (record { matrix = corner_matrix k field; draws = 0 })
 
 -- the matrix of a block of k source symbols of the file, and how many draws it takes; none where
 -- those are more than there may be

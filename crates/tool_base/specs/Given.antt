@@ -5,9 +5,9 @@ use Rattle.std.specs.Prelude.{if◌then◌else◌, option_and_then, unwrap_or, i
 use Rattle.std.specs.Option.{option_map_or}
 use Rattle.std.specs.List.{list_any}
 use Rattle.std.specs.Str.{bytes_eq}
-use Rattle.blocking.specs.Blocks.{size_2d}
+use Rattle.oti_fields.specs.Grids.{grid_size, is_grid}
 use Rattle.oti_fields.specs.declared.codec.Codec.{Codec}
-use Rattle.oti_fields.specs.declared.codec.Codec.TheVariants.{Staircase, Parity2d}
+use Rattle.oti_fields.specs.declared.codec.Codec.TheVariants.{Staircase}
 use Rattle.loss_patterns.specs.Kinds.{loss_of}
 use Rattle.loss_patterns.specs.Numbers.{number_in}
 use Rattle.loss_patterns.specs.declared.kind.LossKind.{LossKind}
@@ -43,11 +43,6 @@ codec_given given = unwrap_or (option_and_then codec_of (given codec_option.name
 abbrev pub loss_given : Given → LossKind
 loss_given given = unwrap_or (option_and_then loss_of (given loss_option.name)) loss.None
 
--- whether the codec is a grid
-abbrev pub is_grid : Codec → Bool
-is_grid Parity2d = true
-is_grid _ = false
-
 -- whether one of these options is given
 abbrev pub gives_any : List Text → Given → Bool
 gives_any names given = list_any (λ name. is_some (given name)) names
@@ -76,8 +71,8 @@ shape_of most given = if gives_excluded most given then None
 -- as many again, at most 65536
 abbrev pub symbols_wanted : RangeOption → Shape → ℕ → Given → ℕ
 symbols_wanted most shape k given =
-    if is_grid shape.codec then size_2d k shape.width
-    else unwrap_or (number_given most given) (min 65536 (3 * k / 2))
+    unwrap_or (grid_size shape.codec k shape.width)
+    (unwrap_or (number_given most given) (min 65536 (3 * k / 2)))
 
 -- this number, where it is one from k to 65536
 abbrev pub symbols_given : RangeOption → Shape → ℕ → Given → Option ℕ

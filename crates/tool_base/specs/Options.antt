@@ -7,6 +7,7 @@ use Rattle.std.specs.Option.{option_map_or}
 use Rattle.std.specs.Str.{bytes_eq}
 use Rattle.oti_fields.specs.declared.codec.Codec.{Codec}
 use Rattle.oti_fields.specs.declared.codec.Codec.TheVariants.{Staircase, Triangle, Parity2d}
+use Rattle.oti_fields.specs.declared.codec.Codec.TheVariants.{Corner2d}
 use Rattle.loss_patterns.specs.Kinds.{loss_of}
 use Rattle.loss_patterns.specs.Numbers.{number_in}
 use Rattle.tool_base.specs.Items.{Item, Text, items_of, names_once, value_of}
@@ -55,6 +56,7 @@ abbrev pub codec_word : Codec → Text
 codec_word Staircase = codes "staircase"
 codec_word Triangle = codes "triangle"
 codec_word Parity2d = codes "2d"
+codec_word Corner2d = codes "2d-corner"
 
 -- the codec of a word
 abbrev pub codec_of : Text → Option Codec
@@ -62,6 +64,7 @@ codec_of text =
     if bytes_eq text (codec_word Staircase) then Some Staircase
     else if bytes_eq text (codec_word Triangle) then Some Triangle
     else if bytes_eq text (codec_word Parity2d) then Some Parity2d
+    else if bytes_eq text (codec_word Corner2d) then Some Corner2d
     else None
 
 -- whether the text is one of these values

@@ -1,7 +1,6 @@
 -- The ranges of the options of a command.
-use Rattle.std.specs.Prelude.{◌≡◌, ◌≤◌, ℕ}
-use Rattle.blocking.specs.Blocks.{size_2d}
-use Rattle.oti_fields.specs.declared.codec.Codec.TheVariants.{Parity2d}
+use Rattle.std.specs.Prelude.{◌≡◌, ◌≤◌, ℕ, IfSome, true}
+use Rattle.oti_fields.specs.Grids.{grid_size, is_grid}
 use Rattle.loss_patterns.specs.Ranges.{IsLoss}
 use Rattle.loss_patterns.specs.declared.kind.LossKind.{LossKind}
 use Rattle.tool_base.specs.declared.command.Command.{Command}
@@ -16,7 +15,7 @@ pub record IsShapeInRange (shape : Shape) : Type 0 where
   pub seed_most : shape.seed ≤ 2147483646
   pub width : 1 ≤ shape.width
   pub width_most : shape.width ≤ 65536
-  pub grid_n1 : shape.codec ≡ Parity2d → shape.n1 ≡ 3
+  pub grid_n1 : is_grid shape.codec ≡ true → shape.n1 ≡ 3
 
 -- the options of `encode` are in their ranges, and a grid has the size that follows from the others
 pub record IsEncodeInRange (shape : Shape) (symbol block max_n : ℕ) : Type 0 where
@@ -26,7 +25,7 @@ pub record IsEncodeInRange (shape : Shape) (symbol block max_n : ℕ) : Type 0 w
   pub block_some : 1 ≤ block
   pub block_most : block ≤ max_n
   pub max_n_most : max_n ≤ 65536
-  pub grid_size : shape.codec ≡ Parity2d → max_n ≡ size_2d block shape.width
+  pub grid_fits : IfSome (grid_size shape.codec block shape.width) (λ size. max_n ≡ size)
 
 -- the options of `lose` are in their ranges
 pub record IsLoseInRange (kind : LossKind) (seed packets : ℕ) : Type 0 where
@@ -44,7 +43,7 @@ pub record IsPerfInRange (shape : Shape) (symbol k n : ℕ) (kind : LossKind) (r
   pub k_some : 1 ≤ k
   pub k_most : k ≤ n
   pub n_most : n ≤ 65536
-  pub grid_size : shape.codec ≡ Parity2d → n ≡ size_2d k shape.width
+  pub grid_fits : IfSome (grid_size shape.codec k shape.width) (λ size. n ≡ size)
   pub loss_in_range : IsLoss kind
   pub runs_some : 1 ≤ runs
   pub runs_most : runs ≤ 1000

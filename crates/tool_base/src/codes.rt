@@ -1,7 +1,7 @@
 // The code of a source block, of a file or by itself.
-ghost use Rattle.std.specs.Prelude.{◌≡◌, ◌≢◌, ◌≤◌, ◌<◌, length, slice_index, Some, None, IfOk};
-ghost use Rattle.blocking.specs.Blocks.{size_2d};
-ghost use Rattle.oti_fields.specs.declared.codec.Codec.TheVariants.{Parity2d};
+ghost use Rattle.std.specs.Prelude.{◌≡◌, ◌≤◌, ◌<◌, length, slice_index, Some, None, IfOk, IfSome};
+ghost use Rattle.std.specs.Prelude.{false};
+ghost use Rattle.oti_fields.specs.Grids.{grid_size, is_grid};
 ghost use Rattle.packet_file.specs.Header.{source_counts};
 ghost use Rattle.packet_file.specs.Packets.{block_symbols};
 ghost use Rattle.tool_base.specs.BlockCode.{block_matrix, limit_by, matrix_by, seed_field};
@@ -11,7 +11,7 @@ ghost use Rattle.tool_base.specs.Ranges.{IsShapeInRange};
 use crate::Shape;
 use oti_fields::Codec;
 use packet_file::Header;
-use parity_2d::parity_2d;
+use parity_2d::{parity_2d, parity_2d_corner};
 use staircase::{BuildRefusal, Built, staircase};
 use std::alloc::Global;
 use triangle::triangle;
@@ -50,7 +50,7 @@ pub fn shape_code(alloc: Global, shape: &Shape, k: u32, n: u32) -> Result<Built,
     requires some { 1 ≤ k }
     requires within { k ≤ n }
     requires most { n ≤ 65536 }
-    requires grid { shape.now.codec ≡ Parity2d → n ≡ size_2d k shape.now.width }
+    requires grid { IfSome (grid_size shape.now.codec k shape.now.width) (λ size. n ≡ size) }
     ensures ok { IfOk result (λ built. shape_matrix shape.now k n
         ≡ Some (record { matrix = built.code; draws = built.draws })) }
     ensures draw_limit { result ≡ Err BuildRefusal.DrawLimit → shape_matrix shape.now k n ≡ None }
@@ -85,8 +85,8 @@ fn code_by(
     requires least { 3 ≤ n1 }
     requires greatest { n1 ≤ 10 }
     requires field_some { 1 ≤ field }
-    requires seed { codec ≢ Parity2d → field ≤ 2147483646 }
-    requires grid { codec ≡ Parity2d → n ≡ size_2d k field }
+    requires seed { is_grid codec ≡ false → field ≤ 2147483646 }
+    requires grid { IfSome (grid_size codec k field) (λ size. n ≡ size) }
     ensures ok { IfOk result (λ built. matrix_by codec n1 field draws k n
         ≡ Some (record { matrix = built.code; draws = built.draws })) }
     ensures draw_limit { result ≡ Err BuildRefusal.DrawLimit
@@ -102,6 +102,10 @@ fn code_by(
             code: parity_2d(alloc, k, field)?,
             draws: 0,
         }),
+        Codec::Corner2d => Ok(Built {
+            code: parity_2d_corner(alloc, k, field)?,
+            draws: 0,
+        }),
     }
 }
 
@@ -111,9 +115,10 @@ impl Shape {
     pub fn seed_field(&self) -> u32
         ensures { result ≡ seed_field self.now }
     {
-        match self.codec {
-            Codec::Staircase | Codec::Triangle => self.seed,
-            Codec::Parity2d => self.width,
+        if self.codec.is_grid() {
+            self.width
+        } else {
+            self.seed
         }
     }
 }

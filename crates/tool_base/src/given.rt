@@ -1,18 +1,16 @@
 // The values that are given, or the defaults, once the table has let them pass.
 ghost use Rattle.std.specs.Prelude.{◌≡◌, ◌≤◌, ◌∷◌, [], IfSome};
-ghost use Rattle.blocking.specs.Blocks.{size_2d};
-ghost use Rattle.oti_fields.specs.declared.codec.Codec.TheVariants.{Parity2d};
+ghost use Rattle.oti_fields.specs.Grids.{grid_size};
 ghost use Rattle.loss_patterns.specs.Ranges.{IsLoss};
 ghost use Rattle.tool_base.specs.Reading.{given_of, listed, numbered_option, ranged};
 ghost use Rattle.tool_base.specs.Ranges.{IsShapeInRange};
-ghost use Rattle.tool_base.specs.Given.{codec_given, gives_any, gives_excluded, is_grid, is_random};
+ghost use Rattle.tool_base.specs.Given.{codec_given, gives_any, gives_excluded, is_random};
 ghost use Rattle.tool_base.specs.Given.{is_yes, loss_given, number_given, number_or, shape_of};
 ghost use Rattle.tool_base.specs.Given.{symbols_given, symbols_wanted};
 
 use crate::Shape;
 use crate::options::{NumberRow, OptionRow, RangeRow, read_codec};
 use crate::table::{CODEC, DRAWS, LOSS, N1, ORDER, SEED, WIDTH};
-use blocking::size_2d;
 use clap::ArgMatches;
 use loss_patterns::{LossKind, read_loss, read_number};
 use oti_fields::Codec;
@@ -90,16 +88,6 @@ pub fn loss_given(given: &ArgMatches) -> LossKind
     }
 }
 
-// Whether the codec is a grid.
-fn is_grid(codec: Codec) -> bool
-    ensures { result ≡ is_grid codec }
-{
-    match codec {
-        Codec::Parity2d => true,
-        Codec::Staircase | Codec::Triangle => false,
-    }
-}
-
 // Whether the option is given.
 fn gives(given: &ArgMatches, name: &str) -> bool
     ensures { result ≡ gives_any (name.now ∷ []) (given_of given.now) }
@@ -112,7 +100,7 @@ fn gives(given: &ArgMatches, name: &str) -> bool
 fn gives_excluded(given: &ArgMatches, most: &RangeRow) -> bool
     ensures { result ≡ gives_excluded (ranged most.now) (given_of given.now) }
 {
-    if is_grid(codec_given(given)) {
+    if codec_given(given).is_grid() {
         gives(given, N1.range.name)
             || gives(given, SEED.range.name)
             || gives(given, most.name)
@@ -148,7 +136,8 @@ pub fn symbols_given(given: &ArgMatches, most: &RangeRow, shape: &Shape, k: u32)
     ensures value { result ≡ symbols_given (ranged most.now) shape.now k (given_of given.now) }
     ensures least { IfSome result (λ n. k ≤ n) }
     ensures most { IfSome result (λ n. n ≤ 65536) }
-    ensures grid { IfSome result (λ n. shape.now.codec ≡ Parity2d → n ≡ size_2d k shape.now.width) }
+    ensures grid { IfSome result
+        (λ n. IfSome (grid_size shape.now.codec k shape.now.width) (λ size. n ≡ size)) }
 {
     let n = symbols_wanted(given, most, shape, k);
     if k as u64 <= n && n <= 65_536 {
@@ -164,10 +153,10 @@ fn symbols_wanted(given: &ArgMatches, most: &RangeRow, shape: &Shape, k: u32) ->
     requires some { 1 ≤ k }
     requires few { k ≤ 65536 }
     ensures value { result ≡ symbols_wanted (ranged most.now) shape.now k (given_of given.now) }
-    ensures grid { shape.now.codec ≡ Parity2d → result ≡ size_2d k shape.now.width }
+    ensures grid { IfSome (grid_size shape.now.codec k shape.now.width) (λ size. result ≡ size) }
 {
-    if is_grid(shape.codec) {
-        return size_2d(k, shape.width);
+    if let Some(n) = shape.codec.grid_size(k, shape.width) {
+        return n;
     }
     match number_given(given, most) {
         Some(n) => n as u64,

@@ -54,6 +54,7 @@ pub fn codec_word(codec: Codec) -> &'static str
         Codec::Staircase => "staircase",
         Codec::Triangle => "triangle",
         Codec::Parity2d => "2d",
+        Codec::Corner2d => "2d-corner",
     }
 }
 
@@ -69,6 +70,9 @@ pub fn read_codec(text: &str) -> Option<Codec>
     }
     if text == "2d" {
         return Some(Codec::Parity2d);
+    }
+    if text == "2d-corner" {
+        return Some(Codec::Corner2d);
     }
     None
 }

@@ -16,6 +16,7 @@ use Rattle.triangle.specs.Triangle.{chain, link_count, triangle_matrix, with_dra
 use Rattle.triangle.specs.Triangle.{with_links}
 use Rattle.oti_fields.specs.declared.codec.Codec.{Codec}
 use Rattle.oti_fields.specs.declared.codec.Codec.TheVariants.{Staircase, Triangle, Parity2d}
+use Rattle.oti_fields.specs.declared.codec.Codec.TheVariants.{Corner2d}
 use Rattle.packet_file.specs.Header.{HeaderFields, symbol_count}
 use Rattle.tool_base.specs.BlockCode.{row_weight}
 use Rattle.tool_laws.proofs.MatrixSizes.{by_codec, most_draws}
@@ -229,6 +230,7 @@ block_alike Staircase h draws other k = staircase_alike k (symbol_count h k) (ro
 block_alike Triangle h draws other k = triangle_alike k (symbol_count h k) (row_weight h) h.oti.seed
     (most_draws h draws k) (most_draws h other k)
 block_alike Parity2d h draws other k = refl
+block_alike Corner2d h draws other k = refl
 
 -- is one under all limits under which there is one
 pub matrix_one : (h : HeaderFields) (draws other : Option ℕ) (k : ℕ) (m n : Matrix)

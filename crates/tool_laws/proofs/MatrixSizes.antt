@@ -14,6 +14,7 @@ use Rattle.triangle.specs.Triangle.{chain, link_count, triangle_matrix, with_dra
 use Rattle.triangle.specs.Triangle.{with_links}
 use Rattle.oti_fields.specs.declared.codec.Codec.{Codec}
 use Rattle.oti_fields.specs.declared.codec.Codec.TheVariants.{Staircase, Triangle, Parity2d}
+use Rattle.oti_fields.specs.declared.codec.Codec.TheVariants.{Corner2d}
 use Rattle.packet_file.specs.Header.{HeaderFields, symbol_count, symbols_by}
 use Rattle.tool_base.specs.BlockCode.{limit_by, matrix_by, row_weight}
 use Rattle.object_file.specs.Codes.{header_matrix}
@@ -168,6 +169,7 @@ sized_by Staircase h draws k is = staircase_sized k (symbol_count h k) (row_weig
 sized_by Triangle h draws k is = triangle_sized k (symbol_count h k) (row_weight h) h.oti.seed
     (most_draws h draws k)
 sized_by Parity2d h draws k is = (refl, ap (λ (codec : Codec). symbols_by codec h.oti k) (sym is))
+sized_by Corner2d h draws k is = (refl, ap (λ (codec : Codec). symbols_by codec h.oti k) (sym is))
 
 -- has k source symbols, and as many encoding symbols as the header gives it
 pub matrix_sized : (h : HeaderFields) (draws : Option ℕ) (k : ℕ) (m : Matrix)

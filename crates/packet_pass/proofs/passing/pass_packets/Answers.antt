@@ -1,10 +1,10 @@
-use Rattle.std.proofs.Common.{rules, ◌≡◌, ℕ, ◌∷◌, ◌++◌, [], Result, Ok, Err, IfErr, ap, sym, ◌∙◌}
+use Rattle.std.proofs.Common.{rules, ◌≡◌, ℕ, ◌∷◌, ◌++◌, [], Result, Ok, Err, IfErr, refl, ap, sym, ◌∙◌}
 use Rattle.std.proofs.Common.{subst, arith, length-append}
 use Rattle.fec_base.specs.Outside.{stream}
 use Rattle.packet_pass.specs.Writing.{EndsAtPacket, EndsEarly, PassesOne}
 use Rattle.packet_pass.specs.declared.kind.Pass.{Pass}
 use Rattle.packet_pass.specs.declared.kind.PassRefusal.{PassRefusal}
-use Rattle.packet_pass.proofs.Ending.{ends_behind, passes_more}
+use Rattle.packet_pass.proofs.Ending.{ends_behind, passes_more, passes_none}
 use Rattle.packet_pass.proofs.passing.pass_packets.Goals as goal
 
 pub returns-in_err-pass_packet-clause-ends : goal.returns-in_err-pass_packet-clause-ends
@@ -32,6 +32,21 @@ returns-in_err-pass_packet-clause-ends g c =
     counted so_far.later so_far.sink_later refusal here in
     subst (λ (r : Result ℕ PassRefusal). IfErr r (EndsEarly pass c.args.most h input now output
     out_now)) (sym same) ends
+
+pub loop-index-init : goal.loop-index-init
+loop-index-init g c =
+    let input = stream (g.S.Source.left c.args.input.now) (g.S.Source.faults c.args.input.now) in
+    let output = stream (g.K.Sink.held c.args.output.now) (g.K.Sink.faults c.args.output.now) in
+    record {
+      long = c.requires.piece;
+      pass = refl;
+      ready = c.requires.ready;
+      came = ([], passes_none c.args.writer.now.pass c.args.most c.args.header.now input output,
+          refl);
+      few = omega arith;
+      later = omega arith;
+      sink_later = omega arith;
+    }
 
 pub loop-index-preserved : goal.loop-index-preserved
 loop-index-preserved g c =
