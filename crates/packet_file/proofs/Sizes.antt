@@ -123,10 +123,18 @@ pub symbols_most : (codec : Codec) (oti : Oti) (k : ℕ) → HasSizes codec oti 
     → symbols_by codec oti k ≤ oti.max_n
 symbols_most Staircase oti k sizes less = scaled_most k oti.block oti.max_n less
 symbols_most Triangle oti k sizes less = scaled_most k oti.block oti.max_n less
-symbols_most Parity2d oti k sizes less = omega (arith, size_smaller k oti.block oti.seed sizes.seed
-    less, sizes.grid (size_2d oti.block oti.seed) refl)
-symbols_most Corner2d oti k sizes less = omega (arith, size_smaller k oti.block oti.seed sizes.seed
-    less, sizes.grid (size_2d_corner oti.block oti.seed) refl)
+symbols_most Parity2d oti k sizes less = omega (
+  arith,
+  size_smaller k oti.block oti.seed sizes.seed
+      less,
+  sizes.grid (size_2d oti.block oti.seed) refl,
+)
+symbols_most Corner2d oti k sizes less = omega (
+  arith,
+  size_smaller k oti.block oti.seed sizes.seed
+      less,
+  sizes.grid (size_2d_corner oti.block oti.seed) refl,
+)
 
 -- no item passes the test
 none_any : (test : ℕ → Bool) (xs : List ℕ) → All (λ x. test x ≡ false) xs → list_any test xs ≡ false

@@ -1,5 +1,5 @@
 -- The parity check matrix of a grid with a corner.
-use Rattle.std.specs.Prelude.{ℕ, List, [], ◌∷◌, ◌++◌}
+use Rattle.std.specs.Prelude.{ℕ, [], ◌∷◌, ◌++◌}
 use Rattle.std.specs.List.{range_with_len}
 use Rattle.sparse_rows.specs.Matrix.{Matrix}
 use Rattle.blocking.specs.Blocks.{size_2d}

@@ -1,4 +1,4 @@
-use Rattle.std.proofs.Common.{◌≡◌, ℕ, Option, Some, unwrap_or, sym, ap, ◌∙◌, arith}
+use Rattle.std.proofs.Common.{◌≡◌, ℕ, Option, unwrap_or, sym, ap, ◌∙◌, arith}
 use Rattle.blocking.specs.Blocks.{scaled}
 use Rattle.packet_file.specs.Header.{symbols_by}
 use Rattle.packet_file.proofs.Sizes.{fields_have_sizes, symbols_most, HasSizes}
