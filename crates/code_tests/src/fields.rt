@@ -75,14 +75,18 @@ fn the_first_fault_of_an_ldpc_code_is_named(rt: HostRuntime) {
 
 #[test]
 fn the_first_fault_of_a_grid_is_named(rt: HostRuntime) {
-    // N1 - 3, the greatest n, the width, and the fault.
+    // The codec, N1 - 3, the greatest n, the width, and the fault.
     let cases = [
-        (0, 10, 3, None),
-        (1, 10, 0, Some(FieldFault::WidthZero)),
-        (0, 11, 3, Some(FieldFault::NotFixed)),
-        (1, 10, 3, Some(FieldFault::NotFixed)),
+        (Codec::Parity2d, 0, 10, 3, None),
+        (Codec::Parity2d, 1, 10, 0, Some(FieldFault::WidthZero)),
+        (Codec::Parity2d, 0, 11, 3, Some(FieldFault::NotFixed)),
+        (Codec::Parity2d, 1, 10, 3, Some(FieldFault::NotFixed)),
+        (Codec::Corner2d, 0, 11, 3, None),
+        (Codec::Corner2d, 1, 11, 0, Some(FieldFault::WidthZero)),
+        (Codec::Corner2d, 0, 10, 3, Some(FieldFault::NotFixed)),
+        (Codec::Corner2d, 1, 11, 3, Some(FieldFault::NotFixed)),
     ];
-    for (n1m3, max_n, seed, fault) in cases {
+    for (codec, n1m3, max_n, seed, fault) in cases {
         let oti = Oti {
             n1m3,
             block: 5,
@@ -90,7 +94,7 @@ fn the_first_fault_of_a_grid_is_named(rt: HostRuntime) {
             seed,
             ..THREE_OF_SEVEN
         };
-        check(&rt, Codec::Parity2d, oti, fault);
+        check(&rt, codec, oti, fault);
     }
 }
 

@@ -156,28 +156,32 @@ fn half_as_many_again_by_default_and_at_most_65536(rt: HostRuntime) -> Result<()
 
 #[test]
 fn a_grid_has_the_size_of_its_width_and_block(rt: HostRuntime) -> Result<(), Fail> {
-    let words = [
-        "encode",
-        "--codec=2d",
-        "--width=3",
-        "--block=5",
-        "--symbol=1",
+    let cases = [
+        ("--codec=2d", Codec::Parity2d, 10),
+        ("--codec=2d-corner", Codec::Corner2d, 11),
     ];
-    let wanted = Command::Encode {
-        shape: Shape {
-            codec: Codec::Parity2d,
-            width: 3,
-            ..STAIRCASE
-        },
-        symbol: 1,
-        block: 5,
-        max_n: 10,
-    };
-    assert!(rt; read(rt.alloc(), words.as_slice())? == Some(wanted));
+    for (word, codec, max_n) in cases {
+        let words = ["encode", word, "--width=3", "--block=5", "--symbol=1"];
+        let wanted = Command::Encode {
+            shape: Shape {
+                codec,
+                width: 3,
+                ..STAIRCASE
+            },
+            symbol: 1,
+            block: 5,
+            max_n,
+        };
+        assert!(rt; read(rt.alloc(), words.as_slice())? == Some(wanted));
+    }
     check_usage(
         &rt,
         rt.alloc(),
-        &[&["encode", "--codec=2d", "--block=65536"]],
+        &[
+            &["encode", "--codec=2d", "--block=65536"],
+            // A grid of 65,536 symbols, which has no room for a corner.
+            &["encode", "--codec=2d-corner", "--width=254", "--block=65025"],
+        ],
     )
 }
 
@@ -251,6 +255,12 @@ fn a_grid_of_perf_has_the_size_of_its_width_and_k(rt: HostRuntime) -> Result<(),
         ..STAIRCASE
     };
     assert!(rt; read(rt.alloc(), words.as_slice())? == perf(shape, 5, 10));
+    let words = ["perf", "--codec=2d-corner", "--width=3", "--k=5"];
+    let shape = Shape {
+        codec: Codec::Corner2d,
+        ..shape
+    };
+    assert!(rt; read(rt.alloc(), words.as_slice())? == perf(shape, 5, 11));
     check_usage(
         &rt,
         rt.alloc(),
@@ -260,6 +270,7 @@ fn a_grid_of_perf_has_the_size_of_its_width_and_k(rt: HostRuntime) -> Result<(),
             &["perf", "--codec=2d", "--n1=3"],
             &["perf", "--codec=2d", "--seed=1"],
             &["perf", "--codec=2d", "--draws=1"],
+            &["perf", "--codec=2d-corner", "--n=11"],
         ],
     )
 }
@@ -326,6 +337,8 @@ fn options_that_are_not_the_commands_are_usage(rt: HostRuntime) -> Result<(), Fa
             &["encode", "--width=3"],
             &["encode", "--codec=2d", "--n1=3"],
             &["encode", "--codec=2d", "--max-n=10"],
+            &["encode", "--codec=2d-corner", "--n1=3"],
+            &["encode", "--codec=2d-corner", "--max-n=11"],
             &["lose", "--draws=1"],
             &["lose", "--loss=none", "--loss=none"],
             &["show", "--loss=none"],
@@ -448,6 +461,12 @@ fn a_shape_has_the_code_of_its_codec(rt: HostRuntime) -> Result<(), Fail> {
     assert!(rt; (built.code.entries(), built.draws) == (18, 14));
     let built = shape_code(alloc, &grid, 5, 10)?;
     assert!(rt; (built.code.entries(), built.draws) == (15, 0));
+    let corner = Shape {
+        codec: Codec::Corner2d,
+        ..grid
+    };
+    let built = shape_code(alloc, &corner, 5, 11)?;
+    assert!(rt; (built.code.entries(), built.draws) == (21, 0));
     Ok(())
 }
 
@@ -456,4 +475,5 @@ fn codecs_have_their_words(rt: HostRuntime) {
     assert!(rt; codec_word(Codec::Staircase) == "staircase");
     assert!(rt; codec_word(Codec::Triangle) == "triangle");
     assert!(rt; codec_word(Codec::Parity2d) == "2d");
+    assert!(rt; codec_word(Codec::Corner2d) == "2d-corner");
 }

@@ -40,6 +40,11 @@ const GRID_FILE: [u8; 76] = *b"OFPK\x01\xc8\0\0\0\0\0\0\0\x05\0\x01\x01\0\0\x50\
     \0\0\0\0\x01\0\0\0\x01\x02\0\0\0\x02\x04\0\0\0\x03\x08\0\0\0\x04\x10\
     \0\0\0\x05\x07\0\0\0\x06\x18\0\0\0\x07\x09\0\0\0\x08\x12\0\0\0\x09\x04";
 
+// And in the same grid with a corner.
+const CORNER_FILE: [u8; 81] = *b"OFPK\x01\xc9\0\0\0\0\0\0\0\x05\0\x01\x01\0\0\x50\0\x0b\0\0\0\x03\
+    \0\0\0\0\x01\0\0\0\x01\x02\0\0\0\x02\x04\0\0\0\x03\x08\0\0\0\x04\x10\
+    \0\0\0\x05\x07\0\0\0\x06\x18\0\0\0\x07\x09\0\0\0\x08\x12\0\0\0\x09\x04\0\0\0\x0a\x1f";
+
 // What the packets of symbols 3, 4 and 0 of the staircase make known: symbols and their bytes.
 const REBUILT: [(u32, u8); 4] = [(1, 2), (2, 4), (5, 4), (6, 7)];
 

@@ -1,6 +1,6 @@
 // What a decode tells, packet by packet, how its blocks come out, and where it stops.
 use super::{
-    GRID_FILE, Outside, REBUILT, STAIRCASE_FILE, ample, check, check_left, check_told, run_in,
+    CORNER_FILE, GRID_FILE, Outside, REBUILT, STAIRCASE_FILE, ample, check, check_left, check_told, run_in,
     run_over, with_packets,
 };
 use fec_base::Place;
@@ -118,12 +118,26 @@ fn packets_tell_what_peeling_gives_and_decide_the_block(rt: HostRuntime) -> Resu
 }
 
 // The same of a grid with the source 01 02 04 08 10, without what is told.
-const GRID_CASES: [(&[(u8, u8)], Status, &str); 6] = [
+const GRID_CASES: [(&[(u8, u8)], Status, &str); 7] = [
     // Rebuilt from the repair symbols, with a repeat at the end.
     (
         &[(9, 4), (7, 9), (4, 16), (5, 7), (0, 1), (0, 1)],
         Status::Done,
         "block 0 peeled\npackets 6\n",
+    ),
+    // Without the packets 0, 5 and 7: the first row of the grid and its first column.
+    (
+        &[
+            (1, 2),
+            (2, 4),
+            (3, 8),
+            (4, 16),
+            (6, 0x18),
+            (8, 0x12),
+            (9, 4),
+        ],
+        Status::Undetermined,
+        "block 0 undetermined 0 5 7\npackets 7\n",
     ),
     (
         &[(2, 4), (5, 7), (6, 0x18), (7, 9), (8, 0x12), (9, 4)],
@@ -160,6 +174,39 @@ fn packets_decide_how_a_grid_comes_out(rt: HostRuntime) -> Result<(), Fail> {
         let object: &[u8] = &[1, 2, 4, 8, 16];
         let output = if *status == Status::Done { object } else { &[] };
         check_left(&rt, &left, *status, output, report.as_bytes());
+    }
+    Ok(())
+}
+
+// Packets of the grid with a corner. The first row of the grid lacks a symbol until the corner comes.
+const CORNER_PACKETS: [(u8, u8); 8] = [
+    (1, 2),
+    (2, 4),
+    (3, 8),
+    (4, 16),
+    (6, 0x18),
+    (8, 0x12),
+    (9, 4),
+    (10, 0x1f),
+];
+
+const CORNER_TOLD: [(u32, u8); 6] = [(9, 4), (6, 0x18), (8, 0x12), (0, 1), (5, 7), (7, 9)];
+
+#[test]
+fn a_corner_rebuilds_what_its_grid_leaves_open(rt: HostRuntime) -> Result<(), Fail> {
+    let header = &CORNER_FILE[..26];
+    let file = with_packets(rt.alloc(), header, &CORNER_PACKETS)?;
+    let left = run_over(rt.alloc(), &["decode"], &file)?;
+    let peeled = "block 0 peeled\npackets 8\n";
+    check_left(&rt, &left, Status::Done, &[1, 2, 4, 8, 16], peeled.as_bytes());
+    check_told(&rt, &left, &CORNER_TOLD);
+    // How many packets came before a byte that is none, and how many symbols they made known.
+    for (came, known) in [(1, 0), (2, 1), (3, 1), (4, 3), (7, 3)] {
+        let mut file = with_packets(rt.alloc(), header, &CORNER_PACKETS[..came])?;
+        file.push(0)?;
+        let left = run_over(rt.alloc(), &["decode"], &file)?;
+        assert!(rt; left.status == Status::Malformed);
+        check_told(&rt, &left, &CORNER_TOLD[..known]);
     }
     Ok(())
 }

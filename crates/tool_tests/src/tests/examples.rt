@@ -1,5 +1,5 @@
 // Words and an input, and how a run over them ends.
-use super::{GRID, GRID_FILE, STAIRCASE_FILE, THREE_OF_SEVEN, check};
+use super::{CORNER_FILE, GRID, GRID_FILE, STAIRCASE_FILE, THREE_OF_SEVEN, check};
 use std::test::Fail;
 use tool_base::Status::{self, Done, Limit, Undetermined};
 
@@ -23,7 +23,7 @@ const SEVEN: &str = "blocks 1\npackets 7\n";
 
 const PEELED: &str = "block 0 peeled\npackets 7\n";
 
-const CASES: [Case; 16] = [
+const CASES: [Case; 18] = [
     // A staircase of three source symbols and seven encoding symbols.
     (&THREE_OF_SEVEN, &OBJECT, Done, &STAIRCASE_FILE, SEVEN),
     (
@@ -70,6 +70,27 @@ const CASES: [Case; 16] = [
         Done,
         &GRID_OBJECT,
         "block 0 peeled\npackets 10\n",
+    ),
+    // The same grid with a corner.
+    (
+        &[
+            "encode",
+            "--codec=2d-corner",
+            "--width=3",
+            "--block=5",
+            "--symbol=1",
+        ],
+        &GRID_OBJECT,
+        Done,
+        &CORNER_FILE,
+        "blocks 1\npackets 11\n",
+    ),
+    (
+        &["decode"],
+        &CORNER_FILE,
+        Done,
+        &GRID_OBJECT,
+        "block 0 peeled\npackets 11\n",
     ),
     // An object without a byte has no block.
     (&["encode"], &[], Done, &EMPTY_FILE, "blocks 0\npackets 0\n"),

@@ -1,5 +1,5 @@
 // Packet files without the packets that are lost, and packet files that are shown.
-use super::{GRID_FILE, STAIRCASE_FILE, check};
+use super::{CORNER_FILE, GRID_FILE, STAIRCASE_FILE, check};
 use std::alloc::Global;
 use std::process::Abort;
 use std::test::Fail;
@@ -46,6 +46,8 @@ const STAIRCASE_LINE: &str =
 
 const GRID_LINE: &str = "codec 2d width 3 length 5 symbol 1 block 5 max 10 blocks 1\n";
 
+const CORNER_LINE: &str = "codec 2d-corner width 3 length 5 symbol 1 block 5 max 11 blocks 1\n";
+
 // The first bytes of a file are shown by these lines.
 fn check_shown(
     rt: &impl Abort,
@@ -75,6 +77,7 @@ fn a_file_is_shown(rt: HostRuntime) -> Result<(), Fail> {
     check_shown(&rt, alloc, &file, STAIRCASE_LINE, packet)?;
     let packet = "packet 0 block 0 symbol 0 bytes 01\n";
     check_shown(&rt, alloc, &GRID_FILE[..31], GRID_LINE, packet)?;
+    check_shown(&rt, alloc, &CORNER_FILE[..31], CORNER_LINE, packet)?;
     Ok(())
 }
 

@@ -41,7 +41,7 @@ fn with_bytes(alloc: Global, file: &[u8], place: usize, bytes: &[u8]) -> Result<
     Ok(changed)
 }
 
-const REFUSED: [(Damage, Status, &str); 25] = [
+const REFUSED: [(Damage, Status, &str); 27] = [
     (
         Packets(b"\0\x10\0\0\x01"),
         Malformed,
@@ -102,6 +102,9 @@ const REFUSED: [(Damage, Status, &str); 25] = [
     (Grid(22, &[0; 4]), Malformed, "fault: header field 7\n"),
     (Grid(21, &[11]), Malformed, "fault: header field 8\n"),
     (Grid(16, &[0x21]), Malformed, "fault: header field 8\n"),
+    // The greatest n of a grid isn't that of a grid with a corner.
+    (Grid(5, &[201]), Malformed, "fault: header field 8\n"),
+    (Grid(5, &[202]), Malformed, "fault: header codec 202\n"),
     // From byte 8 on: the length, the symbol length, N1 and G, the greatest block length and n.
     (
         Staircase(8, &[0, 0, 0x10, 0, 0, 1]),
