@@ -31,7 +31,7 @@ INSIDE = "-- Inside:"
 CODES, TOOL, OUTSIDE = "The codes", "The format and the commands", "When something outside fails"
 CODE_CRATES = (
     "park_miller sparse_rows parity_2d staircase triangle peeling null_witness gauss fec_session"
-    " fec_threshold partial_block clash_proof"
+    " fec_threshold partial_block repair_request clash_proof"
 ).split()
 APART = {
     ("fec_base", "Symbol"): CODES,
@@ -64,7 +64,8 @@ reader decides, and for that reads the definitions that it rests on. This page l
 contract of `run` and the public laws rest on. A file of `specs/` is believed whole or not at all.
 
 `make trusted` prints the page, and fails where it isn't the list of today; `tools/trusted.py -v`
-has each definition with its line. Behind a name stands its count of lines, without comments.
+has each definition with its line. Behind a name stands its count of lines, without comments, and
+behind a crate the counts of its definitions and of their lines.
 """
 OTHERS = """
 ## What needn't be believed
@@ -364,28 +365,30 @@ class Listing:
         return APART.get((crate, name)) or (CODES if crate in CODE_CRATES else TOOL)
 
     def table(self, crate, part):
-        """Rows of the believed files of a crate that are in this part, and of its types where they are."""
+        """Rows of the believed files of a crate that are in this part; the first has the crate and its counts."""
         files = [
             file
             for file in self.files(crate)
             if self.kind(file) == "believed" and self.part(crate, file.path.stem) == part
         ]
-        types = sorted(
-            f"`{what[1]}`"
-            for what in self.believed
-            if not isinstance(what, Definition) and what[0] == crate and self.part(crate) == part
-        )
         held = [[d for d in f.definitions.values() if d in self.believed] for f in files]
-        if files or types:
-            yield "| **`%s`**: definitions %d, lines %d | | |" % (crate, *counted(sum(held, [])))
+        head = "**`%s`** %d, %d" % (crate, *counted(sum(held, [])))
         for file, definitions in zip(files, held):
             cells = ["", ""]
             for d in definitions:
                 at = 0 if d in self.run else 1
                 cells[at] += f"{', ' if cells[at] else ''}`{d.name}` {len(d.text)}"
-            yield f"| [{file.path.stem}](../{place(file.path)}) | {cells[0]} | {cells[1]} |"
-        if types:
-            yield f"| types | {', '.join(types)} | |"
+            yield f"| {head} | [{file.path.stem}](../{place(file.path)}) | {cells[0]} | {cells[1]} |"
+            head = ""
+
+    def declared(self, part):
+        """The row of the types of Rust that these definitions name."""
+        found = {}
+        for what in self.believed:
+            if not isinstance(what, Definition) and self.part(what[0]) == part:
+                found.setdefault(what[0], []).append(f"`{what[1]}`")
+        names = "; ".join(f"`{crate}`: {', '.join(sorted(found[crate]))}" for crate in self.crates if crate in found)
+        return [f"| types of Rust | | {names} | |"] if names else []
 
     def kit(self):
         """The words of the kit that believed definitions use, by module."""
@@ -416,9 +419,10 @@ class Listing:
                 if isinstance(d, Definition) and self.part(d.file.crate, d.file.path.stem) == part
             ]
             lines.append("\n## %s: for `run` definitions %d, lines %d\n" % (part, *counted(own)))
-            lines.append("| file | for `run` | for the laws alone |\n|---|---|---|")
+            lines.append("| crate | file | for `run` | for the laws alone |\n|---|---|---|---|")
             for crate in self.crates:
                 lines += self.table(crate, part)
+            lines += self.declared(part)
         lines += [OTHERS, "| crate | for its public contracts | inside |", "|---|---|---|"]
         for crate in self.crates:
             cells = {"believed": [], "public": [], "inside": []}
