@@ -348,10 +348,15 @@ def over_zeros(run, size):
 
 
 def long_frames(_):
-    """Frames are more than an object may be long: as many as may be are written, and one more is read."""
+    """Frames are more than an object may be long: as many as may be are written, and one more is read. One less is no
+    fault."""
     run = Run("long frames", ["unframe", "--symbol=65535"], b"")
     right = Answer(7, bytes(3 * 4096), b"fault: limit length\n")
     yield Case(run, "frames of 1 GiB", partial(over_zeros, run, 1 << 30), (right, True))
+    run = Run("long frames", ["frame", "--symbol=65535"], b"")
+    for count, status, report in ((4096, 0, b"datagrams 4096\n"), (4097, 7, b"fault: limit length\n")):
+        right = (Answer(status, bytes(4096 * 65535), report), True)
+        yield Case(run, f"{count} empty datagrams", partial(over_zeros, run, 3 * count), right)
 
 
 def handed_back(_):
