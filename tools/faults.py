@@ -252,8 +252,10 @@ def no_waiting(runs):
         if any(descriptor == 0 for _, descriptor, _ in takes):
             for given in (0, 10, 26, 400):
                 if given < len(run.data):
+                    # Where these bytes decide it, no more are asked for.
+                    is_enough = answer(Run(run.name, run.words, run.data[:given])) == whole
                     fault, right = f"an input of {given} bytes and no more yet", read_failed(run, given)
-                    yield Case(run, fault, partial(starved, run, given), right)
+                    yield Case(run, fault, partial(starved, run, given), whole if is_enough else right)
         if len(whole.output) > 4096:
             yield Case(run, "no room in the output", partial(choked, run), partial(is_front, whole))
 
