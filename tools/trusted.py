@@ -399,8 +399,10 @@ class Listing:
                 mixfix = "◌" in name and all(part in text for part in name.split("◌") if part)
                 if item and not is_ours(module) and (mixfix or name in cites):
                     found.setdefault(module.replace(".specs", ""), set()).add(f"`{item}`")
-        for module in sorted(found):
-            yield f"- {module}: {', '.join(sorted(found[module]))}"
+        for crate in sorted({module.partition(".")[0] for module in found}):
+            of_crate = sorted(module for module in found if module.partition(".")[0] == crate)
+            words = "; ".join(f"{module.partition('.')[2]}: {', '.join(sorted(found[module]))}" for module in of_crate)
+            yield f"- **{crate}**. {words}"
 
     def page(self):
         held = [d for file in self.specs.values() for d in file.definitions.values()]
