@@ -59,20 +59,19 @@ CLAUSE = re.compile(r"^ *(?:(?:requires|ensures)\*?(?: \w+)?|ghost \w+ ?[:=]) \{
 
 INTRODUCTION = """# What must be believed
 
-The check proves that the code keeps its contracts. Whether a contract says what it should, a
-reader decides, and for that reads the definitions that it rests on. This page lists those that the
-contract of `run` and the public laws rest on. A file of `specs/` is believed whole or not at all.
+The check proves that the code keeps its contracts. Whether a contract says what it should, a reader decides, and for
+that reads the definitions that it rests on. This page lists those that the contract of `run` and the public laws rest
+on. A file of `specs/` is believed whole or not at all.
 
-`make trusted` prints the page, and fails where it isn't the list of today; `tools/trusted.py -v`
-has each definition with its line. Behind a name stands its count of lines, without comments, and
-behind a crate the counts of its definitions and of their lines.
+`make trusted` prints the page, and fails where it isn't the list of today; `tools/trusted.py -v` has each definition
+with its line. Behind a name stands its count of lines, without comments, and behind a crate the counts of its
+definitions and of their lines.
 """
 OTHERS = """
 ## What needn't be believed
 
-No contract of `run` and no law rests on these files. On the first ones contracts of public
-functions of a crate do. The others say how a crate keeps its values and what holds within it, and
-begin with `-- Inside:`.
+No contract of `run` and no law rests on these files. On the first ones contracts of public functions of a crate do. The
+others say how a crate keeps its values and what holds within it, and begin with `-- Inside:`.
 """
 KIT = """
 ## Words of the kit
