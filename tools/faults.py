@@ -74,6 +74,11 @@ def memory_lacked(run, whole, got, may_be_silent=True):
     return (is_front or not got.output) and got.report in (MEMORY, told_lines(whole.report) + MEMORY)
 
 
+def at_bytes(data, places):
+    """Each place of few bytes, and else these."""
+    return range(len(data) + 1) if len(data) <= 300 else places
+
+
 def some(things, count):
     """At most so many of the things: the first and the last ones, and others at even distances between."""
     if len(things) <= count:
@@ -195,7 +200,7 @@ def size_limits(runs):
     """A file may only grow so far. Where the signal for that isn't ignored it ends the program without a report."""
     for run in runs:
         whole = answer(run)
-        for limit in (0, 1, 26, 500, len(whole.output) - 1, len(whole.output)):
+        for limit in at_bytes(whole.output, (0, 1, 26, 500, len(whole.output) - 1, len(whole.output))):
             if 0 <= limit <= len(whole.output):
                 right = write_failed(whole, limit)
                 yield Case(run, f"an output of {limit} bytes", partial(limited, run, limit, 1), right)
@@ -250,7 +255,7 @@ def no_waiting(runs):
     for run in runs:
         whole, takes, _ = traced(run)
         if any(descriptor == 0 for _, descriptor, _ in takes):
-            for given in (0, 10, 26, 400):
+            for given in at_bytes(run.data, (0, 10, 26, 400)):
                 if given < len(run.data):
                     # Where these bytes decide it, no more are asked for.
                     is_enough = answer(Run(run.name, run.words, run.data[:given])) == whole
