@@ -413,7 +413,8 @@ def try_kind(name, runs):
             count += 1
             if not is_right:
                 wrong += 1
-                print(f"wrong: {case.run.name} ({os.path.basename(case.run.program)} {' '.join(case.run.words)}), {name}: {case.fault}")
+                words = " ".join([os.path.basename(case.run.program), *case.run.words])
+                print(f"wrong: {case.run.name} ({words}), {name}: {case.fault}")
                 if not callable(case.right):
                     print(f"  wanted: {case.right}")
                 print(f"  got:    {got}", flush=True)
