@@ -62,23 +62,27 @@ echo '  a fifth of the packets lost'
 lose --loss=even:200 --seed=2
 decode some
 
-# frames COUNT: a datagram stream, of as many datagrams of 0 to 1,021 bytes.
-frames() {
-    python3 - "$1" > stream <<'PYTHON'
+# framed COUNT MOST: `frame` and `unframe` of a stream of so many datagrams of 0 to MOST bytes, or of its share. The
+# stream comes back.
+framed() {
+    python3 - "$(($1 / share))" "$2" > stream <<'PYTHON'
 import random, sys
 
-chance = random.Random(1)
-for _ in range(int(sys.argv[1])):
-    length = chance.randint(0, 1021)
+chance, count, most = random.Random(1), int(sys.argv[1]), int(sys.argv[2])
+for _ in range(count):
+    length = chance.randint(0, most)
     sys.stdout.buffer.write(b"\7" + length.to_bytes(2, "big") + chance.randbytes(length))
 PYTHON
+    "$program" frame --symbol=$(($2 + 3)) < stream > frames 2> told
+    alone stream frame --symbol=$(($2 + 3))
+    alone frames unframe --symbol=$(($2 + 3))
+    cmp stream made
 }
 
-echo '65,536 datagrams of 0 to 1,021 bytes, in symbols of 1,024: 64 MiB'
-frames $((65536 / share))
-"$program" frame < stream > packets 2> told
-alone stream frame
-alone packets unframe
+echo 'datagrams: 64 MiB of frames of 1,024 bytes, of datagrams of 0 to 1,021 bytes'
+framed 65536 1021
+echo '  64 MiB of frames of 64 bytes, of datagrams of 0 to 61 bytes'
+framed 1048576 61
 
 echo '16 MiB, --symbol=16 --block=10000'
 object 16777216

@@ -3,7 +3,7 @@
 
     datagrams.py send HOST PORT          reads a packet file, sends its header often, and each packet once
     datagrams.py receive PORT SECONDS    writes what comes as a packet file, until nothing has come for so long
-    datagrams.py stream COUNT            writes a datagram stream: so many datagrams of 0 to 253 bytes, of four flows
+    datagrams.py stream COUNT [MOST]     writes a datagram stream: so many datagrams of 0 to MOST (253) bytes, four flows
     datagrams.py same STREAM STREAM      compares two datagram streams, one datagram after the other
 
 A header has 26 bytes and begins with OFPK, which no packet's identifier does. Datagrams of another length are
@@ -63,10 +63,10 @@ def receive(port, seconds):
     print(f"came {came}", file=sys.stderr)
 
 
-def stream(count):
+def stream(count, most=253):
     chance = random.Random(1)
     for _ in range(count):
-        length = chance.randint(0, 253)
+        length = chance.randint(0, most)
         sys.stdout.buffer.write(bytes([chance.randrange(4)]) + length.to_bytes(2, "big") + chance.randbytes(length))
 
 
@@ -92,8 +92,8 @@ if __name__ == "__main__":
         send(sys.argv[2], int(sys.argv[3]))
     elif sys.argv[1:2] == ["receive"] and len(sys.argv) == 4:
         receive(int(sys.argv[2]), float(sys.argv[3]))
-    elif sys.argv[1:2] == ["stream"] and len(sys.argv) == 3:
-        stream(int(sys.argv[2]))
+    elif sys.argv[1:2] == ["stream"] and len(sys.argv) in (3, 4):
+        stream(*map(int, sys.argv[2:]))
     elif sys.argv[1:2] == ["same"] and len(sys.argv) == 4:
         same(sys.argv[2], sys.argv[3])
     else:

@@ -23,7 +23,7 @@ elif command -v rt > /dev/null; then
     echo "Program: UNPROVED. No build/eperftool is there, so 'rt try' builds the sources without a proof, once"
     echo "         for each command, in some three minutes. 'make build' proves and builds the program."
 else
-    echo "There is neither build/eperftool nor 'rt' on the PATH: see 'Set-up' in README.md." >&2
+    echo "There is neither build/eperftool nor 'rt' on the PATH: see README.md." >&2
     exit 1
 fi
 

@@ -74,6 +74,11 @@ def memory_lacked(run, whole, got, may_be_silent=True):
     return (is_front or not got.output) and got.report in (MEMORY, told_lines(whole.report) + MEMORY)
 
 
+def at_bytes(data, places):
+    """Each place of few bytes, and else these."""
+    return range(len(data) + 1) if len(data) <= 300 else places
+
+
 def some(things, count):
     """At most so many of the things: the first and the last ones, and others at even distances between."""
     if len(things) <= count:
@@ -195,7 +200,7 @@ def size_limits(runs):
     """A file may only grow so far. Where the signal for that isn't ignored it ends the program without a report."""
     for run in runs:
         whole = answer(run)
-        for limit in (0, 1, 26, 500, len(whole.output) - 1, len(whole.output)):
+        for limit in at_bytes(whole.output, (0, 1, 26, 500, len(whole.output) - 1, len(whole.output))):
             if 0 <= limit <= len(whole.output):
                 right = write_failed(whole, limit)
                 yield Case(run, f"an output of {limit} bytes", partial(limited, run, limit, 1), right)
@@ -250,10 +255,12 @@ def no_waiting(runs):
     for run in runs:
         whole, takes, _ = traced(run)
         if any(descriptor == 0 for _, descriptor, _ in takes):
-            for given in (0, 10, 26, 400):
+            for given in at_bytes(run.data, (0, 10, 26, 400)):
                 if given < len(run.data):
+                    # Where these bytes decide it, no more are asked for.
+                    is_enough = answer(Run(run.name, run.words, run.data[:given])) == whole
                     fault, right = f"an input of {given} bytes and no more yet", read_failed(run, given)
-                    yield Case(run, fault, partial(starved, run, given), right)
+                    yield Case(run, fault, partial(starved, run, given), whole if is_enough else right)
         if len(whole.output) > 4096:
             yield Case(run, "no room in the output", partial(choked, run), partial(is_front, whole))
 
@@ -348,10 +355,15 @@ def over_zeros(run, size):
 
 
 def long_frames(_):
-    """Frames are more than an object may be long: as many as may be are written, and one more is read."""
+    """Frames are more than an object may be long: as many as may be are written, and one more is read. One less is no
+    fault."""
     run = Run("long frames", ["unframe", "--symbol=65535"], b"")
     right = Answer(7, bytes(3 * 4096), b"fault: limit length\n")
     yield Case(run, "frames of 1 GiB", partial(over_zeros, run, 1 << 30), (right, True))
+    run = Run("long frames", ["frame", "--symbol=65535"], b"")
+    for count, status, report in ((4096, 0, b"datagrams 4096\n"), (4097, 7, b"fault: limit length\n")):
+        right = (Answer(status, bytes(4096 * 65535), report), True)
+        yield Case(run, f"{count} empty datagrams", partial(over_zeros, run, 3 * count), right)
 
 
 def handed_back(_):
@@ -401,7 +413,8 @@ def try_kind(name, runs):
             count += 1
             if not is_right:
                 wrong += 1
-                print(f"wrong: {case.run.name} ({os.path.basename(case.run.program)} {' '.join(case.run.words)}), {name}: {case.fault}")
+                words = " ".join([os.path.basename(case.run.program), *case.run.words])
+                print(f"wrong: {case.run.name} ({words}), {name}: {case.fault}")
                 if not callable(case.right):
                     print(f"  wanted: {case.right}")
                 print(f"  got:    {got}", flush=True)

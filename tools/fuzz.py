@@ -249,22 +249,42 @@ def random_stream(chance, size):
     return stream
 
 
-def hurt(chance, data):
-    """Bytes of which at times one is changed, or the last ones are lost."""
-    if data and chance.random() < 0.3:
-        data = bytearray(data)
-        data[chance.randrange(len(data))] ^= 1 << chance.randrange(8)
-    return bytes(data[: chance.randint(0, len(data))] if chance.random() < 0.2 else data)
+def hurt(chance, data, size):
+    """Bytes that are as they were, or of which a bit is changed, some are lost at the end, or put in or left out
+    between; or the length of a datagram or a byte behind it is another one. Or other bytes altogether, small ones or
+    any."""
+    data, how = bytearray(data), chance.choice("same same bit cut in out length padding small any".split())
+    at = chance.randrange(len(data) + 1)
+    if how == "bit" and at < len(data):
+        data[at] ^= 1 << chance.randrange(8)
+    elif how == "cut":
+        del data[at:]
+    elif how == "in":
+        data[at:at] = chance.randbytes(chance.randint(1, size))
+    elif how == "out":
+        del data[at : at + chance.randint(1, size)]
+    elif how in ("length", "padding") and len(data) >= size:
+        at -= at % size if at + size <= len(data) else at
+        length = chance.choice([size - 3, size - 2, chance.randint(0, size), chance.randint(0, 65535)])
+        if how == "length":
+            data[at + 1 : at + 3] = length.to_bytes(2, "big")
+        else:
+            data[at + chance.randrange(size)] = chance.choice([0, 1, 255])
+    elif how in ("small", "any"):
+        most = 255 if how == "any" else 2
+        data = bytes(chance.randint(0, most) for _ in range(chance.randint(0, 4 * min(size, 60))))
+    return bytes(data)
 
 
 def check_datagrams(chance, seen):
     """A datagram stream in frames, and frames that were hurt or not, back into datagrams."""
-    size = chance.choice([3, 4, 5, 6, 16, chance.randint(3, 300)])
-    stream, words = random_stream(chance, size), [f"--symbol={size}"]
+    size = chance.choice([3, 4, 5, 6, 16, 1024, chance.randint(3, 300), chance.randint(3, 5000)])
+    words = [f"--symbol={size}"] if size != 1024 or chance.random() < 0.5 else []
+    stream = random_stream(chance, size)
     whole = expected(reading.frame, stream, size)
     if not whole[0]:
         check(["unframe", *words], whole[1], expected(reading.unframe, whole[1], size), seen)
-    stream, frames = hurt(chance, stream), hurt(chance, whole[1])
+    stream, frames = hurt(chance, stream, size), hurt(chance, whole[1], size)
     check(["frame", *words], stream, expected(reading.frame, stream, size), seen)
     check(["unframe", *words], frames, expected(reading.unframe, frames, size), seen)
 

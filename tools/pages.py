@@ -5,8 +5,8 @@
 
 A command is an indented line that begins with `$ `; the indented lines behind it are what it prints, to either stream.
 The commands of a page run one after the other by one shell, in a folder of their own where build/ and demo/ are this
-repository's and `eperftool` on the PATH is build/eperftool. `make` isn't run. A difference is printed, and ends with status 1. So is a
-row of docs/pictures/needed.dat that the guide's table hasn't.
+repository's and `eperftool` on the PATH is build/eperftool. `make` isn't run. A difference is printed, and ends with
+status 1. So is a row of docs/pictures/needed.dat that the guide's table hasn't.
 """
 import os
 import pathlib

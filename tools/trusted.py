@@ -31,7 +31,7 @@ INSIDE = "-- Inside:"
 CODES, TOOL, OUTSIDE = "The codes", "The format and the commands", "When something outside fails"
 CODE_CRATES = (
     "park_miller sparse_rows parity_2d staircase triangle peeling null_witness gauss fec_session"
-    " fec_threshold partial_block clash_proof"
+    " fec_threshold partial_block repair_request clash_proof"
 ).split()
 APART = {
     ("fec_base", "Symbol"): CODES,
@@ -59,19 +59,19 @@ CLAUSE = re.compile(r"^ *(?:(?:requires|ensures)\*?(?: \w+)?|ghost \w+ ?[:=]) \{
 
 INTRODUCTION = """# What must be believed
 
-The check proves that the code keeps its contracts. Whether a contract says what it should, a
-reader decides, and for that reads the definitions that it rests on. This page lists those that the
-contract of `run` and the public laws rest on. A file of `specs/` is believed whole or not at all.
+The check proves that the code keeps its contracts. Whether a contract says what it should, a reader decides, and for
+that reads the definitions that it rests on. This page lists those that the contract of `run` and the public laws rest
+on. A file of `specs/` is believed whole or not at all.
 
-`make trusted` prints the page, and fails where it isn't the list of today; `tools/trusted.py -v`
-has each definition with its line. Behind a name stands its count of lines, without comments.
+`make trusted` prints the page, and fails where it isn't the list of today; `tools/trusted.py -v` has each definition
+with its line. Behind a name stands its count of lines, without comments, and behind a crate the counts of its
+definitions and of their lines.
 """
 OTHERS = """
 ## What needn't be believed
 
-No contract of `run` and no law rests on these files. On the first ones contracts of public
-functions of a crate do. The others say how a crate keeps its values and what holds within it, and
-begin with `-- Inside:`.
+No contract of `run` and no law rests on these files. On the first ones contracts of public functions of a crate do. The
+others say how a crate keeps its values and what holds within it, and begin with `-- Inside:`.
 """
 KIT = """
 ## Words of the kit
@@ -364,28 +364,30 @@ class Listing:
         return APART.get((crate, name)) or (CODES if crate in CODE_CRATES else TOOL)
 
     def table(self, crate, part):
-        """Rows of the believed files of a crate that are in this part, and of its types where they are."""
+        """Rows of the believed files of a crate that are in this part; the first has the crate and its counts."""
         files = [
             file
             for file in self.files(crate)
             if self.kind(file) == "believed" and self.part(crate, file.path.stem) == part
         ]
-        types = sorted(
-            f"`{what[1]}`"
-            for what in self.believed
-            if not isinstance(what, Definition) and what[0] == crate and self.part(crate) == part
-        )
         held = [[d for d in f.definitions.values() if d in self.believed] for f in files]
-        if files or types:
-            yield "| **`%s`**: definitions %d, lines %d | | |" % (crate, *counted(sum(held, [])))
+        head = "**`%s`** %d, %d" % (crate, *counted(sum(held, [])))
         for file, definitions in zip(files, held):
             cells = ["", ""]
             for d in definitions:
                 at = 0 if d in self.run else 1
                 cells[at] += f"{', ' if cells[at] else ''}`{d.name}` {len(d.text)}"
-            yield f"| [{file.path.stem}](../{place(file.path)}) | {cells[0]} | {cells[1]} |"
-        if types:
-            yield f"| types | {', '.join(types)} | |"
+            yield f"| {head} | [{file.path.stem}](../{place(file.path)}) | {cells[0]} | {cells[1]} |"
+            head = ""
+
+    def declared(self, part):
+        """The row of the types of Rust that these definitions name."""
+        found = {}
+        for what in self.believed:
+            if not isinstance(what, Definition) and self.part(what[0]) == part:
+                found.setdefault(what[0], []).append(f"`{what[1]}`")
+        names = "; ".join(f"`{crate}`: {', '.join(sorted(found[crate]))}" for crate in self.crates if crate in found)
+        return [f"| types of Rust | | {names} | |"] if names else []
 
     def kit(self):
         """The words of the kit that believed definitions use, by module."""
@@ -396,8 +398,10 @@ class Listing:
                 mixfix = "◌" in name and all(part in text for part in name.split("◌") if part)
                 if item and not is_ours(module) and (mixfix or name in cites):
                     found.setdefault(module.replace(".specs", ""), set()).add(f"`{item}`")
-        for module in sorted(found):
-            yield f"- {module}: {', '.join(sorted(found[module]))}"
+        for crate in sorted({module.partition(".")[0] for module in found}):
+            of_crate = sorted(module for module in found if module.partition(".")[0] == crate)
+            words = "; ".join(f"{module.partition('.')[2]}: {', '.join(sorted(found[module]))}" for module in of_crate)
+            yield f"- **{crate}**. {words}"
 
     def page(self):
         held = [d for file in self.specs.values() for d in file.definitions.values()]
@@ -416,9 +420,10 @@ class Listing:
                 if isinstance(d, Definition) and self.part(d.file.crate, d.file.path.stem) == part
             ]
             lines.append("\n## %s: for `run` definitions %d, lines %d\n" % (part, *counted(own)))
-            lines.append("| file | for `run` | for the laws alone |\n|---|---|---|")
+            lines.append("| crate | file | for `run` | for the laws alone |\n|---|---|---|---|")
             for crate in self.crates:
                 lines += self.table(crate, part)
+            lines += self.declared(part)
         lines += [OTHERS, "| crate | for its public contracts | inside |", "|---|---|---|"]
         for crate in self.crates:
             cells = {"believed": [], "public": [], "inside": []}
