@@ -162,7 +162,9 @@ def worked_runs():
     shape, grid = ["--symbol=1", "--block=3", "--max-n=7"], ["--codec=2d", "--width=3", "--block=5", "--symbol=1"]
     three, five = bytes([1, 2, 4]), bytes([1, 2, 4, 8, 16])
     file = answer(Run("", ["encode", *shape], three)).output
+    corner = ["--codec=2d-corner", *grid[1:]]
     square = answer(Run("", ["encode", *grid], five)).output
+    cornered = answer(Run("", ["encode", *corner], five)).output
     small = ["perf", "--k=3", "--n=7", "--symbol=1", "--order=sent"]
     return [
         Run("encode, three of seven", ["encode", *shape], three),
@@ -173,6 +175,8 @@ def worked_runs():
         Run("decode, none of seven", ["decode"], file[:26]),
         Run("encode, a grid of ten", ["encode", *grid], five),
         Run("decode, six of a grid of ten", ["decode"], chosen(square, [2, 5, 6, 7, 8, 9], 5)),
+        Run("encode, a grid with a corner", ["encode", *corner], five),
+        Run("decode, eight of a grid with a corner", ["decode"], chosen(cornered, [1, 2, 3, 4, 6, 8, 9, 10], 5)),
         Run("perf, seven of seven", small, b""),
         Run("perf, four of seven", [*small, "--loss=first:3"], b""),
     ]

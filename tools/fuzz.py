@@ -51,10 +51,10 @@ PERF_BY_HAND = [
 
 def random_shape(chance):
     """The words that choose a code, its number, N1, and its seed or width."""
-    codec = chance.choice(["staircase", "staircase", "triangle", "2d"])
-    if codec == "2d":
+    codec = chance.choice(["staircase", "staircase", "triangle", "2d", "2d-corner"])
+    if codec in ("2d", "2d-corner"):
         width = chance.randint(1, 9)
-        return ["--codec=2d", f"--width={width}"], 200, 3, width
+        return [f"--codec={codec}", f"--width={width}"], 200 if codec == "2d" else 201, 3, width
     n1, seed = chance.randint(3, 10), chance.choice([1, 7, chance.randint(1, 2147483646)])
     number = {"staircase": 3, "triangle": 4}[codec]
     return [f"--codec={codec}", f"--n1={n1}", f"--seed={seed}"], number, n1, seed
@@ -64,8 +64,8 @@ def random_words(chance):
     words, codec, n1, seed = random_shape(chance)
     symbol, block, limit = chance.choice([1, 1, 2, 3, 8, 33]), chance.randint(1, 24), None
     words += [f"--symbol={symbol}", f"--block={block}"]
-    if codec == 200:
-        max_n = reading.grid_size(block, seed)
+    if codec in reading.GRIDS:
+        max_n = reading.grid_size(codec, block, seed)
     else:
         max_n = block + chance.randint(0, 24)
         words.append(f"--max-n={max_n}")
@@ -84,8 +84,8 @@ def random_perf(chance):
     """Words of a `perf`, and what the second reading is given for them."""
     words, codec, n1, seed = random_shape(chance)
     given = {"codec": codec, "n1": n1, "seed": seed, "k": chance.randint(1, 24), "symbol": 16}
-    if codec == 200:
-        given["n"] = reading.grid_size(given["k"], seed)
+    if codec in reading.GRIDS:
+        given["n"] = reading.grid_size(codec, given["k"], seed)
     else:
         given["n"] = given["k"] * 3 // 2
         if chance.random() < 0.02:

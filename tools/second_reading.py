@@ -6,7 +6,8 @@ them. No code of the program is used here, and no table of it: tools/fuzz.py hol
 import bisect
 
 
-NAMES = {3: "staircase", 4: "triangle", 200: "2d"}
+NAMES = {3: "staircase", 4: "triangle", 200: "2d", 201: "2d-corner"}
+GRIDS = (200, 201)
 
 
 class Ends(Exception):
@@ -61,11 +62,12 @@ def left_side(k, n, n1, draws):
 
 def matrix(codec, k, n, n1, seed, limit):
     """The rows, and how many draws they took."""
-    if codec == 200:
+    if codec in GRIDS:
         width, height = seed, -(-k // seed)
         grid = [[c for c in range(k) if c // width == i] + [k + i] for i in range(height)]
         down = [[c for c in range(k) if c % width == j] for j in range(min(width, k))]
-        return grid + [row + [k + height + j] for j, row in enumerate(down)], 0
+        corner = [list(range(k)) + [n - 1]] if codec == 201 else []
+        return grid + [row + [k + height + j] for j, row in enumerate(down)] + corner, 0
     if limit is None:
         limit = 64 * (n1 * k + 2 * (n - k)) + 65536
     draws = Draws(seed, limit)
@@ -91,8 +93,8 @@ def xor(a, b):
 # ---- files
 
 
-def grid_size(k, width):
-    return k + -(-k // width) + min(width, k)
+def grid_size(codec, k, width):
+    return k + -(-k // width) + min(width, k) + (codec == 201)
 
 
 class Header:
@@ -111,14 +113,15 @@ class Header:
         )
 
     def field_fault(self):
-        grid = self.codec == 200
+        grid = self.codec in GRIDS
         faults = [
             self.symbol == 0, self.group != 1, self.block == 0, self.max_n < self.block, self.max_n > 65536,
             not grid and not 1 <= self.seed <= 2147483646, grid and self.seed == 0,
         ]
         if any(faults):
             return faults.index(True) + 1
-        return 8 if grid and (self.n1m3 != 0 or self.max_n != grid_size(self.block, self.seed)) else None
+        fixed = not grid or self.n1m3 == 0 and self.max_n == grid_size(self.codec, self.block, self.seed)
+        return None if fixed else 8
 
     def check_sizes(self):
         if self.length > 268435456:
@@ -131,7 +134,8 @@ class Header:
         first = sources - small * count
         self.sizes = [large] * first + [small] * (count - first)
         self.counts = [
-            grid_size(k, self.seed) if self.codec == 200 else k * self.max_n // self.block for k in self.sizes
+            grid_size(self.codec, k, self.seed) if self.codec in GRIDS else k * self.max_n // self.block
+            for k in self.sizes
         ]
         if any(n * self.symbol > 268435456 for n in self.counts):
             raise Ends(7, "fault: limit block-bytes\n")
@@ -159,7 +163,7 @@ def read_header(data):
         raise Ends(5, "fault: header magic\n")
     if data[4] != 1:
         raise Ends(5, f"fault: header version {data[4]}\n")
-    if data[5] not in (3, 4, 200):
+    if data[5] not in NAMES:
         raise Ends(5, f"fault: header codec {data[5]}\n")
     if data[6] or data[7]:
         raise Ends(5, "fault: header reserved\n")
@@ -326,7 +330,7 @@ def lose(data, loss, seed, most):
 
 def show(data, most):
     h = read_header(data)
-    code = f"{h.name()} width {h.seed}" if h.codec == 200 else f"{h.name()} n1 {h.n1} seed {h.seed}"
+    code = f"{h.name()} width {h.seed}" if h.codec in GRIDS else f"{h.name()} n1 {h.n1} seed {h.seed}"
     text = f"codec {code} length {h.length} symbol {h.symbol} block {h.block} max {h.max_n} blocks {len(h.counts)}\n"
     try:
         for count, block, position, piece in packets(data, h, most):
@@ -409,7 +413,7 @@ def needed(rows, k, kept):
 
 
 def perf(codec, symbol, n1, seed, k, n, limit=None, loss="none", order="random", runs=1, run_seed=1):
-    """`seed` is the width where the codec is 200, and `limit` None where the formula gives it."""
+    """`seed` is the width where the codec is a grid, and `limit` None where the formula gives it."""
     if n * symbol > 268435456:
         raise Ends(7, "fault: limit block-bytes\n")
     try:
