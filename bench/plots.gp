@@ -20,20 +20,20 @@ names(file) = system("grep '^\"' ".file." | tr '\\n' ' '")
 data = folder."/shares.dat"
 all = names(data)
 set output folder."/shares".ending
-set multiplot layout 2,3 margins 0.07,0.98,0.09,0.82 spacing 0.05,0.14
+set multiplot layout 2,4 margins 0.07,0.98,0.09,0.82 spacing 0.04,0.14
 set label 1 "How many runs of a block peel, are solved, or stay undetermined" at screen 0.07,0.96 font ",16"
 set label 2 "peeled" at screen 0.07,0.91 tc rgb colour[1]
 set label 3 "solved by elimination" at screen 0.15,0.91 tc rgb colour[2]
 set label 4 "undetermined" at screen 0.335,0.91 tc rgb dark
 set label 5 "two thirds of the packets are source packets; single losses" at screen 0.98,0.91 right
 set xrange [60:100]
-set xtics 10
+set xtics 20
 set yrange [0:100]
 set key off
-do for [i = 0:5] {
+do for [i = 0:6] {
     set title word(all, i + 1) offset 0,-0.7
     set xlabel (i > 2 ? "packets that come, %" : "") offset 0,0.5
-    set ylabel (i % 3 ? "" : "runs, %") offset 1.5,0
+    set ylabel (i % 4 ? "" : "runs, %") offset 1.5,0
     plot data index i using 1:(100) with filledcurves x1 lc rgb grey, \
         data index i using 1:(100 * ($2 + $3)) with filledcurves x1 lc rgb colour[2], \
         data index i using 1:(100 * $2) with filledcurves x1 lc rgb colour[1]

@@ -28,10 +28,12 @@ CODES = [
     ("staircase, N1 = 7", ["--n1=7"]),
     ("triangle, N1 = 3", ["--codec=triangle", "--n1=3"]),
 ]
-# Of the same rate, 2 / 3: a source symbol is in a row of two and in one of two long columns, or in a small square.
+# Of the same rate, 2 / 3: a source symbol is in a row of two and in one of two long columns, or in a small square. A
+# corner is one packet more.
 GRIDS = [
     ("grid of width 2", ["--codec=2d", "--width=2"]),
     ("grid of 4 by 4", ["--codec=2d", "--width=4", "--k=16"]),
+    ("4 by 4 with a corner", ["--codec=2d-corner", "--width=4", "--k=16"]),
 ]
 K = 30 if QUICK else 1000
 RUNS = 5 if QUICK else 100
