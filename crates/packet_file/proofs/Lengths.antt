@@ -1,5 +1,5 @@
 -- How many bytes of an encoding symbol its packet has.
-use Rattle.std.proofs.Common.{◌≡◌, ℕ, ◌+◌, ◌-◌, ◌*◌, ◌<◌, ◌≤◌, Bool, true, false, length, arith}
+use Rattle.std.proofs.Common.{◌≡◌, ℕ, ◌+◌, ◌-◌, ◌*◌, ◌<◌, ◌≤◌, Bool, true, false, arith}
 use Rattle.std.proofs.Common.{sym, subst, if◌then◌else◌, ⊎_elim}
 use Rattle.std.specs.Int.{div_ceil}
 use Rattle.std.proofs.Math.Nat.{mul-le-mul_right}
@@ -8,7 +8,7 @@ use Rattle.blocking.specs.Blocks.{symbol_total}
 use Rattle.blocking.proofs.Spread.{ceil_most, ceil_room}
 use Rattle.oti_fields.specs.declared.oti.Oti.{Oti}
 use Rattle.oti_fields.specs.declared.identifier.PacketId.{PacketId}
-use Rattle.packet_file.specs.Header.{HeaderFields, IsHeader, source_counts}
+use Rattle.packet_file.specs.Header.{HeaderFields, IsHeader}
 use Rattle.packet_file.specs.Packets.{IsIdOf, is_last, last_len, payload_by, payload_len, true_len}
 use Rattle.packet_file.specs.declared.version.Version.{Version}
 use Rattle.packet_file.specs.declared.version.Version.TheVariants.{One, Two}
@@ -27,10 +27,16 @@ last_in_range oti len bytes =
   where
     before : ℕ
     before = (symbol_total oti.length oti.symbol - 1) * oti.symbol
+
     fewer : 0 < symbol_total oti.length oti.symbol → before < oti.length
     fewer some = ⊎_elim (λ (lt : before < oti.length). lt) (λ (all : oti.length ≤ before).
-        absurd (omega (arith, some, ceil_most oti.length oti.symbol
-        (symbol_total oti.length oti.symbol - 1) len all))) (cases_lt before oti.length)
+        absurd (omega (
+          arith,
+          some,
+          ceil_most oti.length oti.symbol
+              (symbol_total oti.length oti.symbol - 1) len all,
+        ))) (cases_lt before oti.length)
+
     in_range : (total : ℕ) → oti.length ≤ total * oti.symbol → 0 < total
         → (total - 1) * oti.symbol < oti.length
         → (1 ≤ oti.length - (total - 1) * oti.symbol)

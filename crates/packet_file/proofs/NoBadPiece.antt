@@ -1,6 +1,6 @@
 -- The bytes of packets of a file hold no bad piece.
-use Rattle.std.proofs.Common.{◌≡◌, ℕ, ◌+◌, ◌/◌, ◌%◌, ◌<◌, ◌≤◌, List, [], ◌∷◌, ◌++◌, length, All}
-use Rattle.std.proofs.Common.{get_or, Some, refl, sym, ap, ◌∙◌, subst, arith, append_assoc, inl, inr}
+use Rattle.std.proofs.Common.{◌≡◌, ℕ, ◌+◌, ◌/◌, ◌%◌, ◌<◌, ◌≤◌, List, [], ◌∷◌, ◌++◌, length}
+use Rattle.std.proofs.Common.{get_or, refl, sym, ap, ◌∙◌, subst, arith, append_assoc, inl, inr}
 use Rattle.std.proofs.Common.{length-append, length-take-le}
 use Rattle.std.proofs.lemmas.List.Elements.{All-head}
 use Rattle.oti_fields.specs.Fields.{FitsIdBits, id_bytes}
@@ -10,7 +10,7 @@ use Rattle.packet_file.specs.Header.{HeaderFields, IsHeader}
 use Rattle.packet_file.specs.Packets.{IsPacketOf, Packet, block_symbols, length_field, packet_bytes}
 use Rattle.packet_file.specs.Packets.{packet_head, payload, payload_by, payload_len, spelled}
 use Rattle.packet_file.specs.Packets.{true_len}
-use Rattle.packet_file.specs.Pieces.{IsBroken, lead_by, lead_len}
+use Rattle.packet_file.specs.Pieces.{IsBroken, lead_by}
 use Rattle.packet_file.specs.Faults.{HasPacketFault}
 use Rattle.packet_file.specs.FaultLaws.{PacketHasNoFault, PacketsAreNoBadPiece}
 use Rattle.packet_file.specs.declared.fault.FileFault.{FileFault}
@@ -94,8 +94,13 @@ module _ (id_one : IdIsOne) (h : HeaderFields) (header : IsHeader h) (index limi
   no_fault (ShortPacket i have) (inside, i_is, long, some, broken) ends =
       not_broken broken (ends broken)
   no_fault (NoSuchBlock i sbn) (inside, i_is, id, (more, fits, long, piece_is), sbn_is, past) ends =
-      absurd (omega (arith, past, sbn_is, ap (λ (x : PacketId). x.sbn) (own id more fits piece_is),
-      is.id.block))
+      absurd (omega (
+        arith,
+        past,
+        sbn_is,
+        ap (λ (x : PacketId). x.sbn) (own id more fits piece_is),
+        is.id.block,
+      ))
   no_fault (NoSuchSymbol i esi) (
     inside,
     i_is,
@@ -118,8 +123,11 @@ module _ (id_one : IdIsOne) (h : HeaderFields) (header : IsHeader h) (index limi
       ∙ same ∙ ap (λ l. l ++ behind) piece_is in
       let high : n / 256 % 256 ≡ len / 256 % 256 = ap (λ l. get_or l 4 0) all in
       let low : n % 256 ≡ len % 256 = ap (λ l. get_or l 5 0) all in
-      let small : n < 65536 = omega (arith, (true_in_range h p.0 header is.id).1,
-      header.bits.symbol_bits) in
+      let small : n < 65536 = omega (
+        arith,
+        (true_in_range h p.0 header is.id).1,
+        header.bits.symbol_bits,
+      ) in
       let equal : len ≡ n = omega (arith, high, low, small, fits) in
       differs (equal ∙ ap (true_len h) at)
   no_fault _ has ends = has

@@ -15,7 +15,7 @@ use Rattle.packet_file.specs.Header.{HeaderFields, IsHeader, header_bytes, versi
 use Rattle.packet_file.specs.Packets.{IsPacketOf, IsZeroFrom, Packet, length_field}
 use Rattle.packet_file.specs.Packets.{packet_bytes, packet_head, payload, payload_by, payload_len}
 use Rattle.packet_file.specs.Packets.{spelled, true_len}
-use Rattle.packet_file.specs.Files.{HasZeroPadding, IsPacketFile, upgraded}
+use Rattle.packet_file.specs.Files.{HasZeroPadding, upgraded}
 use Rattle.packet_file.specs.Laws.{FileIsOne, HeaderIsOne, IsSpelling, PacketIsOne}
 use Rattle.packet_file.specs.Laws.{PacketIsSpelled, UpgradeHasPackets}
 use Rattle.packet_file.specs.declared.version.Version.{Version}
@@ -99,9 +99,13 @@ module _ (id_one : IdIsOne) where
       let head : List ℕ = packet_head h id in
       let range = payload_in_range h id is mine.id in
       let long : length (head ++ take n s) ≡ length (head ++ take n t) =
-      omega (arith, length-append head (take n s), length-append head (take n t),
-      length-take-le n s (omega (arith, mine.long, range.1)),
-      length-take-le n t (omega (arith, its.long, range.1))) in
+      omega (
+        arith,
+        length-append head (take n s),
+        length-append head (take n t),
+        length-take-le n s (omega (arith, mine.long, range.1)),
+        length-take-le n t (omega (arith, its.long, range.1)),
+      ) in
       let parts = same_fronts (head ++ take n s) (head ++ take n t) rest more long same in
       let fronts = same_fronts head head (take n s) (take n t) refl parts.0 in
       (same_symbols n s t (mine.long ∙ sym its.long) fronts.1 mine.padded its.padded, parts.1)

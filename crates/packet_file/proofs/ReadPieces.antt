@@ -1,7 +1,8 @@
 -- Pieces as they are read.
 use Rattle.std.proofs.Common.{◌≡◌, ◌≢◌, ℕ, ◌+◌, ◌*◌, ◌/◌, ◌%◌, ◌<◌, ◌≤◌, List, [], ◌∷◌, ◌++◌}
 use Rattle.std.proofs.Common.{length, take, drop, get_or, slice_index, refl, sym, ap, ap₂, ◌∙◌}
-use Rattle.std.proofs.Common.{subst, arith, append_assoc, inl, inr, Option, length-append}
+use Rattle.std.proofs.Common.{subst, arith, append_assoc, inl, inr, Option, Some, IfSome}
+use Rattle.std.proofs.Common.{length-append}
 use Rattle.std.proofs.Math.Seq.{drop-cons}
 use Rattle.std.proofs.lemmas.List.{drop_all, take_all}
 use Rattle.byteorder.specs.Endian.{big_bytes}
@@ -73,6 +74,11 @@ two_bytes head long first second =
 pub consumes_all : (left now : Option (List ℕ)) (taken : ℕ) (bytes : List ℕ)
     → length bytes ≤ taken → Consumes left now (take taken bytes) → Consumes left now bytes
 consumes_all left now taken bytes all = subst (Consumes left now) (take_all taken bytes all)
+
+-- what holds of an identifier that was found
+pub if_found : (P : PacketId → Type 0) (found : Option PacketId) (id : PacketId)
+    → found ≡ Some id → IfSome found P → P id
+if_found P found id is holds = subst (λ (f : Option PacketId). IfSome f P) is holds
 
 -- a fault that the bytes have stops the reading
 pub bad_stops : (h : HeaderFields) (limit index : ℕ) (input now : Stream) (piece : List ℕ)

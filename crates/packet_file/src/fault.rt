@@ -87,10 +87,7 @@ impl fmt::Display for FileFault {
                 f,
                 "packet {index}: its length isn't {length}"
             ),
-            FileFault::BadPadding { index } => write!(
-                f,
-                "packet {index}: its padding isn't zero"
-            ),
+            FileFault::BadPadding { index } => write!(f, "packet {index}: its padding isn't zero"),
             FileFault::TooLarge(limit) => write!(f, "too large: {limit}"),
             FileFault::TooManyBlocks => write!(f, "more than 4096 blocks"),
             FileFault::TooManyPackets => write!(f, "more packets than may be read"),

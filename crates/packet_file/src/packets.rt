@@ -246,11 +246,7 @@ fn read_payload<S: Source>(
 }
 
 // Reads so many bytes of a symbol, and zeros behind them. Says how many bytes were there.
-fn read_padded<S: Source>(
-    src: &mut S,
-    len: usize,
-    symbol: &mut [u8],
-) -> Result<usize, ReadFailed>
+fn read_padded<S: Source>(src: &mut S, len: usize, symbol: &mut [u8]) -> Result<usize, ReadFailed>
     requires { len ≤ length symbol.old }
     ensures bound { IfOk result (λ have. have ≤ len) }
     ensures bytes { IfOk result (λ have. Consumes (S.left src.old) (S.left src.new)
@@ -307,9 +303,18 @@ pub fn spell_packet(h: &Header, id: PacketId, symbol: &[u8], out: &mut [u8]) -> 
     let len = h.payload_len(id) as usize;
     let mut head = [0u8; HEAD_LEN];
     let count = write_head(h, id, &mut head);
-    out[..count].copy_from_slice(&head[..count]);
-    out[count..count + len].copy_from_slice(&symbol[..len]);
+    put_piece(out, 0, &head[..count]);
+    put_piece(out, count, &symbol[..len]);
     count + len
+}
+
+// Puts a piece behind the first `at` bytes.
+fn put_piece(out: &mut [u8], at: usize, piece: &[u8])
+    requires { at + length piece.now ≤ length out.old }
+    ensures bytes { take (at + length piece.now) out.new ≡ take at out.old ++ piece.now }
+    ensures length { length out.new ≡ length out.old }
+{
+    out[at..at + piece.len()].copy_from_slice(piece);
 }
 
 /// Spells what a packet has in front of its payload. Says how many bytes that has.

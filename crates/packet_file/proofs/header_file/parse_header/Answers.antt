@@ -1,6 +1,5 @@
-use Rattle.std.proofs.Common.{◌≡◌, sym, ap, ◌∙◌, Some}
-use Rattle.packet_file.specs.Header.{HeaderFields, header_bytes, size_fault}
-use Rattle.packet_file.specs.Faults.{HasHeaderFault}
+use Rattle.std.proofs.Common.{◌≡◌, sym, ap, ◌∙◌}
+use Rattle.packet_file.specs.Header.{HeaderFields, header_bytes}
 use Rattle.packet_file.proofs.Limits.{has_size_fault}
 use Rattle.packet_file.proofs.Spelled.{header_joined}
 use Rattle.packet_file.proofs.header_file.parse_header.Goals as goal

@@ -26,10 +26,16 @@ returns-then-told-len-clause-fault c =
     let spelled : head ≡ id_bytes c.args.id ++ big_bytes 2 c.from_be_bytes-told.result =
     c.requires.spelled ∙ ap (λ l. id_bytes c.args.id ++ l) (two_bytes head c.told-head
     (c.fits-head 4) (c.fits-head 5)
-    ∙ ap (λ n. big_bytes 2 n) (sym c.from_be_bytes-told.ensures)) in
-    (c.requires.index, refl, c.requires.version, c.args.id, c.requires.id,
-    c.from_be_bytes-told.type_inv, spelled,
-    λ same. c.if-told-len.true (same ∙ sym c.true_len-len.ensures.value))
+    ∙ ap (λ n. big_bytes 2 n) (sym c.from_be_bytes-told.ensures)) in (
+      c.requires.index,
+      refl,
+      c.requires.version,
+      c.args.id,
+      c.requires.id,
+      c.from_be_bytes-told.type_inv,
+      spelled,
+      λ same. c.if-told-len.true (same ∙ sym c.true_len-len.ensures.value),
+    )
 
 pub returns-clause-head : goal.returns-clause-head
 returns-clause-head c =
