@@ -71,8 +71,11 @@ held test fault rest is = rw is refl
 -- the limits in their order, where the first three aren't passed
 module _ (codec : Codec) (oti : Oti) (is : field_fault codec oti ≡ None)
     (fits : oti.length ≤ 268435456) (few : block_count oti.length oti.symbol oti.block ≤ 4096)
-    (small : symbols_by codec oti (slice_index (source_counts (record { version = One; codec = codec; oti = oti }))
-    0) * oti.symbol ≤ 268435456) where
+    (small : symbols_by codec oti (slice_index (source_counts (record {
+      version = One;
+      codec = codec;
+      oti = oti;
+    })) 0) * oti.symbol ≤ 268435456) where
   abbrev made : HeaderFields
   made = record { version = One; codec = codec; oti = oti }
 
@@ -186,8 +189,8 @@ pub block_is_sized : (h : HeaderFields) (i : ℕ) → IsHeader h → i < length 
 block_is_sized h i is inside = blocks_are_sized h is i 0 inside
 
 -- there are as many blocks as counted
-pub counted : (total most : ℕ) → 1 ≤ most → length (spread total (div_ceil total most)) ≡ div_ceil total
-    most
+pub counted : (total most : ℕ) → 1 ≤ most
+    → length (spread total (div_ceil total most)) ≡ div_ceil total most
 counted total most some = ⊎_elim (λ (blocks : 0 < div_ceil total most). spread_long total
     (div_ceil total most) blocks) none (cases_lt 0 (div_ceil total most))
   where
@@ -233,7 +236,7 @@ pub no_size_fault : (h : HeaderFields) → IsHeader h → (codec : Codec) (oti :
     → size_fault (record { version = One; codec = codec; oti = oti }) ≡ Some fault → ⊥
 no_size_fault h is codec oti codec_is oti_is fault passed_limit =
     let same : size_fault (record { version = One; codec = codec; oti = oti }) ≡ size_fault h =
-    ap₂ (λ (c : Codec) (o : Oti). size_fault (record { version = One; codec = c; oti = o })) codec_is
-    oti_is in
+    ap₂ (λ (c : Codec) (o : Oti). size_fault (record { version = One; codec = c; oti = o }))
+    codec_is oti_is in
     let none : Some fault ≡ None = sym passed_limit ∙ same ∙ is.sizes in
     absurd (cc none)

@@ -126,8 +126,8 @@ module _ (id_one : IdIsOne) (h : HeaderFields) (is : IsHeader h) (index limit : 
 
 -- the head of a packet of version 2, and a part of its payload
 module _ (h : HeaderFields) (index limit len : ℕ) (id : PacketId) (head : List ℕ)
-    (two : h.version ≡ Two) (within : index < limit) (of : IsIdOf h id) (len_is : len ≡ true_len h id)
-    (head_is : head ≡ packet_head h id) where
+    (two : h.version ≡ Two) (within : index < limit) (of : IsIdOf h id)
+    (len_is : len ≡ true_len h id) (head_is : head ≡ packet_head h id) where
   pub broken_payload : (part : List ℕ) → length part < len → IsBroken h index limit (head ++ part)
   broken_payload part less =
       let all : payload_len h id ≡ len =

@@ -73,7 +73,8 @@ module _ (h : HeaderFields) (most : ℕ) where
         each = r.each;
         few = r.few;
         piece = piece;
-        taken = Consumes-trans input.bytes mid.bytes now.bytes (spelled h packets) piece before taken;
+        taken = Consumes-trans input.bytes mid.bytes now.bytes (spelled h packets) piece before
+            taken;
         stopped = stops_since h most (length packets) input mid now piece stop later
             (subst (λ (i : ℕ). StopsAt h most i mid now piece stop) (sym counted) stops);
       }
@@ -86,7 +87,7 @@ module _ (h : HeaderFields) (most : ℕ) where
     each = r.each;
     few = r.few;
     piece = r.piece;
-    taken = Consumes-trans input.bytes mid.bytes now.bytes opened (spelled h packets ++ r.piece) taken
-        r.taken;
+    taken = Consumes-trans input.bytes mid.bytes now.bytes opened (spelled h packets ++ r.piece)
+        taken r.taken;
     stopped = stops_since h most (length packets) input mid now r.piece stop later r.stopped;
   }

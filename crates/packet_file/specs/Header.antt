@@ -29,7 +29,8 @@ pub record HeaderFields : Type 0 where
 
 -- the magic, the version, the codec, two reserved bytes, and the transmission information
 abbrev pub header_bytes : HeaderFields → List ℕ
-header_bytes h = codes "OFPK" ++ version_number h.version ∷ codec_number h.codec ∷ 0 ∷ 0 ∷ oti_bytes h.oti
+header_bytes h = codes "OFPK" ++ version_number h.version ∷ codec_number h.codec ∷ 0 ∷ 0
+    ∷ oti_bytes h.oti
 
 -- how many source symbols each source block has
 abbrev pub source_counts : HeaderFields → List ℕ

@@ -58,8 +58,8 @@ impl Header {
         requires bits { FitsBits oti }
         requires fields { field_fault codec oti ≡ None }
         ensures ok { IfOk result (λ h. h ≡ record { version = One; codec = codec; oti = oti }) }
-        ensures err { IfErr result (λ fault. size_fault (record { version = One; codec = codec; oti = oti })
-            ≡ Some fault) }
+        ensures err { IfErr result (λ fault.
+            size_fault (record { version = One; codec = codec; oti = oti }) ≡ Some fault) }
     {
         if oti.length > MOST_BYTES {
             return Err(FileFault::TooLarge(Limit::Length));
@@ -90,7 +90,8 @@ impl Header {
     /// The same header but for its version, which is 1 or 2.
     pub fn with_version(self, version: u8) -> Header
         requires { (version ≡ 1) ⊎ (version ≡ 2) }
-        ensures { (v : Version) → version_number v ≡ version → result ≡ record self { version = v } }
+        ensures { (v : Version) → version_number v ≡ version
+            → result ≡ record self { version = v } }
     {
         match Version::from_number(version) {
             Some(version) => self.of_version(version),
@@ -262,8 +263,10 @@ fn count_symbols(codec: Codec, oti: &Oti, k: u32) -> u32
 // How many encoding symbols all blocks have.
 fn sum_symbols(codec: Codec, oti: &Oti, plan: &Plan) -> u64
     requires fields { field_fault codec oti.now ≡ None }
-    requires plan { plan.now ≡ source_counts (record { version = One; codec = codec; oti = oti.now }) }
-    ensures value { result ≡ total_symbols (record { version = One; codec = codec; oti = oti.now }) }
+    requires plan { plan.now
+        ≡ source_counts (record { version = One; codec = codec; oti = oti.now }) }
+    ensures value { result
+        ≡ total_symbols (record { version = One; codec = codec; oti = oti.now }) }
     ensures most { result ≤ 4096 * 65536 }
 {
     let mut total = 0;
@@ -279,10 +282,12 @@ fn check_sizes(codec: Codec, oti: &Oti, plan: &Plan) -> Result<(), FileFault>
     requires fields { field_fault codec oti.now ≡ None }
     requires length { oti.now.length ≤ 268435456 }
     requires few { block_count oti.now.length oti.now.symbol oti.now.block ≤ 4096 }
-    requires plan { plan.now ≡ source_counts (record { version = One; codec = codec; oti = oti.now }) }
-    ensures ok { OnOk result (size_fault (record { version = One; codec = codec; oti = oti.now }) ≡ None) }
-    ensures err { IfErr result (λ fault. size_fault (record { version = One; codec = codec; oti = oti.now })
-        ≡ Some fault) }
+    requires plan { plan.now
+        ≡ source_counts (record { version = One; codec = codec; oti = oti.now }) }
+    ensures ok { OnOk result
+        (size_fault (record { version = One; codec = codec; oti = oti.now }) ≡ None) }
+    ensures err { IfErr result (λ fault.
+        size_fault (record { version = One; codec = codec; oti = oti.now }) ≡ Some fault) }
 {
     if plan.count() == 0 {
         return Ok(());

@@ -34,8 +34,8 @@ pub const HEAD_LEN: usize = 6;
 /// `buf` are the identifier and then the encoding symbol, padded. The first fault is named:
 /// `TooManyPackets` where `index` is the limit and the input goes on, `ShortPacket` where the input
 /// ends before anything is known of the packet, `NoSuchBlock`, `NoSuchSymbol`, in version 2
-/// `BadLength`, and `ShortPacket` where it ends within the payload. `ReadFault` comes only where the
-/// source's count rose. At most one packet's bytes are taken.
+/// `BadLength`, and `ShortPacket` where it ends within the payload. `ReadFault` comes only where
+/// the source's count rose. At most one packet's bytes are taken.
 pub fn next_packet<S: Source>(
     src: &mut S,
     h: &Header,

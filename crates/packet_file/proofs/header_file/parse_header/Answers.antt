@@ -16,7 +16,8 @@ returns-in-Ok-new-clause-ok c =
     fields c.told-bytes c.in_ok-version.ensures.ok c.copy_from_slice.ensures.after
     c.in-Ok.ensures.ok.1 in
     let is : c.of_version.result ≡ fields = c.of_version.ensures
-    ∙ ap (λ (h : HeaderFields). record h { version = c.in_ok-version.version }) c.in-Ok-new.ensures.ok in
+    ∙ ap (λ (h : HeaderFields). record h { version = c.in_ok-version.version })
+    c.in-Ok-new.ensures.ok in
     spelled ∙ ap header_bytes (sym is)
 
 pub returns-in-Err-new-clause-fault : goal.returns-in-Err-new-clause-fault

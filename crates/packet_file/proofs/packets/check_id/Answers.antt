@@ -11,7 +11,8 @@ returns-then-id-count-clause-fault c =
     let lead = c.args.lead.now in
     let id = c.read_id-id.result in
     let spelled : lead ≡ id_bytes id ++ drop 4 lead = begins lead id
-    (omega (arith, lead_some h.version h.oti.symbol, c.requires.lead)) c.read_id-id.ensures.spelled in (
+    (omega (arith, lead_some h.version h.oti.symbol, c.requires.lead))
+    c.read_id-id.ensures.spelled in (
       c.requires.index,
       refl,
       id,
@@ -26,7 +27,8 @@ returns-then-id-count-clause-whole c =
     let lead = c.args.lead.now in
     let id = c.read_id-id.result in
     let spelled : lead ≡ id_bytes id ++ drop 4 lead = begins lead id
-    (omega (arith, lead_some h.version h.oti.symbol, c.requires.lead)) c.read_id-id.ensures.spelled in
+    (omega (arith, lead_some h.version h.oti.symbol, c.requires.lead))
+    c.read_id-id.ensures.spelled in
     unknown_whole c.fields_have_one_spelling.ensures.id h c.oti-oti.ensures.header c.args.index
     c.args.limit lead id c.requires.lead c.read_id-id.ensures.fits spelled
     (λ (of : IsIdOf h id). absurd (omega (
@@ -43,7 +45,8 @@ returns-then-id-symbol_count-clause-fault c =
     let lead = c.args.lead.now in
     let id = c.read_id-id.result in
     let spelled : lead ≡ id_bytes id ++ drop 4 lead = begins lead id
-    (omega (arith, lead_some h.version h.oti.symbol, c.requires.lead)) c.read_id-id.ensures.spelled in (
+    (omega (arith, lead_some h.version h.oti.symbol, c.requires.lead))
+    c.read_id-id.ensures.spelled in (
       c.requires.index,
       refl,
       id,
@@ -59,7 +62,8 @@ returns-then-id-symbol_count-clause-whole c =
     let lead = c.args.lead.now in
     let id = c.read_id-id.result in
     let spelled : lead ≡ id_bytes id ++ drop 4 lead = begins lead id
-    (omega (arith, lead_some h.version h.oti.symbol, c.requires.lead)) c.read_id-id.ensures.spelled in
+    (omega (arith, lead_some h.version h.oti.symbol, c.requires.lead))
+    c.read_id-id.ensures.spelled in
     unknown_whole c.fields_have_one_spelling.ensures.id h c.oti-oti.ensures.header c.args.index
     c.args.limit lead id c.requires.lead c.read_id-id.ensures.fits spelled
     (λ (of : IsIdOf h id). absurd (omega (

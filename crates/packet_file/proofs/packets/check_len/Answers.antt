@@ -16,7 +16,8 @@ returns-then-told-len-clause-whole c =
     ∙ sym (ap (λ (v : Version). lead_by v h.oti.symbol) c.requires.version) in
     mismeasured_whole c.fields_have_one_spelling.ensures.id h c.oti-oti.ensures.header c.args.index
     c.args.limit c.args.head.now c.args.id long
-    (ids_fit h c.args.id c.oti-oti.ensures.header c.requires.id) c.requires.spelled c.requires.version
+    (ids_fit h c.args.id c.oti-oti.ensures.header c.requires.id) c.requires.spelled
+    c.requires.version
     (λ same. c.if-told-len.true (c.from_be_bytes-told.ensures ∙ same
     ∙ sym c.true_len-len.ensures.value))
 
