@@ -1,10 +1,10 @@
 use Rattle.std.proofs.Common.{rules, ◌≡◌, ℕ, ◌∷◌, ◌++◌, [], Result, Ok, Err, IfErr, ap, sym, ◌∙◌}
-use Rattle.std.proofs.Common.{subst, arith, length-append}
+use Rattle.std.proofs.Common.{refl, subst, arith, length-append}
 use Rattle.fec_base.specs.Outside.{stream}
 use Rattle.packet_pass.specs.Writing.{EndsAtPacket, EndsEarly, PassesOne}
 use Rattle.packet_pass.specs.declared.kind.Pass.{Pass}
 use Rattle.packet_pass.specs.declared.kind.PassRefusal.{PassRefusal}
-use Rattle.packet_pass.proofs.Ending.{ends_behind, passes_more}
+use Rattle.packet_pass.proofs.Ending.{ends_behind, passes_more, passes_none}
 use Rattle.packet_pass.proofs.passing.pass_packets.Goals as goal
 
 pub returns-in_err-pass_packet-clause-ends : goal.returns-in_err-pass_packet-clause-ends
@@ -68,3 +68,14 @@ loop-index-preserved g c =
       later = omega (arith, so_far.later, c.pass_packet.ensures.later);
       sink_later = omega (arith, so_far.sink_later, c.pass_packet.ensures.sink_later);
     }
+
+pub loop-index-init : goal.loop-index-init
+loop-index-init g c = record {
+  long = c.requires.piece;
+  pass = refl;
+  ready = c.requires.ready;
+  came = ([], passes_none c.args.writer.now.pass c.args.most c.args.header.now _ _, refl);
+  few = omega arith;
+  later = omega arith;
+  sink_later = omega arith;
+}
