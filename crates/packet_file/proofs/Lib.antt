@@ -1,6 +1,10 @@
 pub mod Sizes
 pub mod Limits
 pub mod Spelled
+pub mod Lengths
+pub mod OneFile
+pub mod ReadPieces
 pub mod Readings
 pub mod OneFault
 pub mod OnePacketFault
+pub mod NoBadPiece

@@ -14,6 +14,7 @@ use Rattle.oti_fields.specs.Faults.{field_fault}
 use Rattle.oti_fields.specs.declared.codec.Codec.{Codec}
 use Rattle.oti_fields.specs.declared.oti.Oti.{Oti}
 use Rattle.oti_fields.specs.declared.identifier.PacketId.{PacketId}
+use Rattle.packet_file.specs.declared.version.Version.TheVariants.{One}
 use Rattle.packet_file.specs.Header.{HeaderFields, IsHeader, has_large_block, header_bytes}
 use Rattle.packet_file.specs.Header.{size_fault, source_counts, symbol_count, symbols_by}
 use Rattle.packet_file.specs.Header.{total_symbols}
@@ -29,6 +30,7 @@ use Rattle.packet_file.specs.declared.fault.FileFault.TheVariants.{BadReserved, 
 use Rattle.packet_file.specs.declared.fault.FileFault.TheVariants.{NoSuchBlock, NoSuchSymbol}
 use Rattle.packet_file.specs.declared.fault.FileFault.TheVariants.{TooLarge, TooManyBlocks}
 use Rattle.packet_file.specs.declared.fault.FileFault.TheVariants.{TooManyPackets, ReadFault}
+use Rattle.packet_file.specs.declared.fault.FileFault.TheVariants.{BadLength, BadPadding}
 use Rattle.packet_file.proofs.Sizes.{HasSizes, counts_in_range, fields_have_sizes, no_large_block}
 use Rattle.packet_file.proofs.Sizes.{passed, symbols_least, symbols_most}
 
@@ -69,10 +71,13 @@ held test fault rest is = rw is refl
 -- the limits in their order, where the first three aren't passed
 module _ (codec : Codec) (oti : Oti) (is : field_fault codec oti ≡ None)
     (fits : oti.length ≤ 268435456) (few : block_count oti.length oti.symbol oti.block ≤ 4096)
-    (small : symbols_by codec oti (slice_index (source_counts (record { codec = codec; oti = oti }))
-    0) * oti.symbol ≤ 268435456) where
+    (small : symbols_by codec oti (slice_index (source_counts (record {
+      version = One;
+      codec = codec;
+      oti = oti;
+    })) 0) * oti.symbol ≤ 268435456) where
   abbrev made : HeaderFields
-  made = record { codec = codec; oti = oti }
+  made = record { version = One; codec = codec; oti = oti }
 
   three_passed : size_fault made ≡ (if nat_lt 4194304 (total_symbols made) then Some
       (TooLarge AllSymbols) else if nat_lt 536870912 (total_symbols made * oti.symbol) then Some
@@ -116,6 +121,8 @@ IsSizeFault (Field fault) = ⊥
 IsSizeFault (ShortPacket index have) = ⊥
 IsSizeFault (NoSuchBlock index sbn) = ⊥
 IsSizeFault (NoSuchSymbol index esi) = ⊥
+IsSizeFault (BadLength index len) = ⊥
+IsSizeFault (BadPadding index) = ⊥
 IsSizeFault TooManyPackets = ⊥
 IsSizeFault ReadFault = ⊥
 
@@ -153,6 +160,8 @@ has_size_fault bytes h fault bits spelled fields is =
     by_kind (ShortPacket index have) is kind = absurd kind
     by_kind (NoSuchBlock index sbn) is kind = absurd kind
     by_kind (NoSuchSymbol index esi) is kind = absurd kind
+    by_kind (BadLength index len) is kind = absurd kind
+    by_kind (BadPadding index) is kind = absurd kind
     by_kind TooManyPackets is kind = absurd kind
     by_kind ReadFault is kind = absurd kind
 
@@ -180,8 +189,8 @@ pub block_is_sized : (h : HeaderFields) (i : ℕ) → IsHeader h → i < length 
 block_is_sized h i is inside = blocks_are_sized h is i 0 inside
 
 -- there are as many blocks as counted
-counted : (total most : ℕ) → 1 ≤ most → length (spread total (div_ceil total most)) ≡ div_ceil total
-    most
+pub counted : (total most : ℕ) → 1 ≤ most
+    → length (spread total (div_ceil total most)) ≡ div_ceil total most
 counted total most some = ⊎_elim (λ (blocks : 0 < div_ceil total most). spread_long total
     (div_ceil total most) blocks) none (cases_lt 0 (div_ceil total most))
   where
@@ -220,3 +229,14 @@ block_at h kept plan i n same is inside n_is =
     sym (n_is ∙ ap (λ counts. slice_index counts i) is.1) in
     subst (IsBlockOf kept) at (block_is_sized kept i is.0
     (subst (λ (k : HeaderFields). i < length (source_counts k)) (sym same) inside))
+
+-- the fields of a header pass no limit, whatever the version
+pub no_size_fault : (h : HeaderFields) → IsHeader h → (codec : Codec) (oti : Oti) → codec ≡ h.codec
+    → oti ≡ h.oti → (fault : FileFault)
+    → size_fault (record { version = One; codec = codec; oti = oti }) ≡ Some fault → ⊥
+no_size_fault h is codec oti codec_is oti_is fault passed_limit =
+    let same : size_fault (record { version = One; codec = codec; oti = oti }) ≡ size_fault h =
+    ap₂ (λ (c : Codec) (o : Oti). size_fault (record { version = One; codec = c; oti = o }))
+    codec_is oti_is in
+    let none : Some fault ≡ None = sym passed_limit ∙ same ∙ is.sizes in
+    absurd (cc none)

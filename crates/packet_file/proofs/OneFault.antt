@@ -5,8 +5,8 @@ use Rattle.oti_fields.specs.Fields.{FitsBits, codec_number}
 use Rattle.oti_fields.specs.Faults.{field_fault}
 use Rattle.oti_fields.specs.declared.codec.Codec.{Codec}
 use Rattle.oti_fields.specs.declared.check.FieldFault.{FieldFault}
-use Rattle.packet_file.specs.Header.{HeaderFields, header_bytes, size_fault}
-use Rattle.packet_file.specs.Faults.{AreNotZero, HasHeaderFault, IsNoCodec}
+use Rattle.packet_file.specs.Header.{HeaderFields, header_bytes, size_fault, version_number}
+use Rattle.packet_file.specs.Faults.{AreNotZero, HasHeaderFault, IsNoCodec, IsNoVersion}
 use Rattle.packet_file.specs.Laws.{HeaderIsOne}
 use Rattle.packet_file.specs.FaultLaws.{HeaderFaultIsOne, HeaderHasNoFault}
 use Rattle.packet_file.specs.declared.fault.FileFault.{FileFault}
@@ -14,6 +14,7 @@ use Rattle.packet_file.specs.declared.fault.FileFault.TheVariants.{ShortHeader, 
 use Rattle.packet_file.specs.declared.fault.FileFault.TheVariants.{BadVersion, BadCodec}
 use Rattle.packet_file.specs.declared.fault.FileFault.TheVariants.{BadReserved, Field}
 use Rattle.packet_file.specs.declared.fault.FileFault.TheVariants.{TooLarge, TooManyBlocks}
+use Rattle.packet_file.specs.declared.version.Version.{Version}
 
 -- two that fail the same test, or both a later one
 pub level : {A B C D R : Type 0} → (A → C → R) → (A → D → ⊥) → (B → C → ⊥) → (B → D → R)
@@ -40,16 +41,18 @@ abbrev LacksMagic : List ℕ → FileFault → Type 0
 LacksMagic bytes f = (f ≡ BadMagic) × (length bytes ≡ 26) × (take 4 bytes ≢ codes "OFPK")
 
 abbrev LacksVersion : List ℕ → FileFault → Type 0
-LacksVersion bytes f = (version : ℕ) × (rest : List ℕ) × (f ≡ BadVersion version)
-    × (length bytes ≡ 26) × (bytes ≡ codes "OFPK" ++ version ∷ rest) × (version ≢ 1)
+LacksVersion bytes f = (number : ℕ) × (rest : List ℕ) × (f ≡ BadVersion number)
+    × (length bytes ≡ 26) × (bytes ≡ codes "OFPK" ++ number ∷ rest) × IsNoVersion number
 
 abbrev LacksCodec : List ℕ → FileFault → Type 0
-LacksCodec bytes f = (number : ℕ) × (rest : List ℕ) × (f ≡ BadCodec number)
-    × (length bytes ≡ 26) × (bytes ≡ codes "OFPK" ++ 1 ∷ number ∷ rest) × IsNoCodec number
+LacksCodec bytes f = (version : Version) × (number : ℕ) × (rest : List ℕ)
+    × (f ≡ BadCodec number) × (length bytes ≡ 26)
+    × (bytes ≡ codes "OFPK" ++ version_number version ∷ number ∷ rest) × IsNoCodec number
 
 abbrev LacksZeros : List ℕ → FileFault → Type 0
-LacksZeros bytes f = (codec : Codec) × (a : ℕ) × (b : ℕ) × (rest : List ℕ) × (f ≡ BadReserved)
-    × (length bytes ≡ 26) × (bytes ≡ codes "OFPK" ++ 1 ∷ codec_number codec ∷ a ∷ b ∷ rest)
+LacksZeros bytes f = (version : Version) × (codec : Codec) × (a : ℕ) × (b : ℕ) × (rest : List ℕ)
+    × (f ≡ BadReserved) × (length bytes ≡ 26)
+    × (bytes ≡ codes "OFPK" ++ version_number version ∷ codec_number codec ∷ a ∷ b ∷ rest)
     × AreNotZero a b
 
 abbrev HasFields : List ℕ → FileFault → Type 0
@@ -74,12 +77,12 @@ failing : (bytes : List ℕ) (f : FileFault) → HasHeaderFault bytes f
 failing bytes (ShortHeader have) (long, short) =
     inl (ap ShortHeader (sym long), omega (arith, long, short))
 failing bytes BadMagic (long, differs) = inr (inl (refl, long, differs))
-failing bytes (BadVersion version) (long, rest, is, other) =
-    inr (inr (inl (version, rest, refl, long, is, other)))
-failing bytes (BadCodec number) (long, rest, is, none) =
-    inr (inr (inr (inl (number, rest, refl, long, is, none))))
-failing bytes BadReserved (long, codec, a, b, rest, is, not_zero) =
-    inr (inr (inr (inr (inl (codec, a, b, rest, refl, long, is, not_zero)))))
+failing bytes (BadVersion number) (long, rest, is, none) =
+    inr (inr (inl (number, rest, refl, long, is, none)))
+failing bytes (BadCodec number) (long, version, rest, is, none) =
+    inr (inr (inr (inl (version, number, rest, refl, long, is, none))))
+failing bytes BadReserved (long, version, codec, a, b, rest, is, not_zero) =
+    inr (inr (inr (inr (inl (version, codec, a, b, rest, refl, long, is, not_zero)))))
 failing bytes (Field fault) (h, fits, is, found) =
     inr (inr (inr (inr (inr (h, fits, is, ap (λ x. fault_or x (size_fault h)) found)))))
 failing bytes (TooLarge limit) (h, fits, is, fields, found) =
@@ -90,46 +93,53 @@ failing bytes _ has = absurd has
 
 -- what bytes are that pass the first tests
 zeros_of : (bytes : List ℕ) (f : FileFault) → HasFields bytes f
-    → (codec : Codec) × (rest : List ℕ)
-    × (bytes ≡ codes "OFPK" ++ 1 ∷ codec_number codec ∷ 0 ∷ 0 ∷ rest)
-zeros_of bytes f (h, fits, is, found) = (h.codec, _, is)
+    → (version : Version) × (codec : Codec) × (rest : List ℕ)
+    × (bytes ≡ codes "OFPK" ++ version_number version ∷ codec_number codec ∷ 0 ∷ 0 ∷ rest)
+zeros_of bytes f (h, fits, is, found) = (h.version, h.codec, _, is)
 
 codec_of : (bytes : List ℕ) (f : FileFault) → FromZeros bytes f
-    → (codec : Codec) × (rest : List ℕ) × (bytes ≡ codes "OFPK" ++ 1 ∷ codec_number codec ∷ rest)
-codec_of bytes f (inl (codec, a, b, rest, fault, long, is, not_zero)) = (codec, a ∷ b ∷ rest, is)
-codec_of bytes f (inr (h, fits, is, found)) = (h.codec, _, is)
+    → (version : Version) × (codec : Codec) × (rest : List ℕ)
+    × (bytes ≡ codes "OFPK" ++ version_number version ∷ codec_number codec ∷ rest)
+codec_of bytes f (inl (version, codec, a, b, rest, fault, long, is, not_zero)) =
+    (version, codec, a ∷ b ∷ rest, is)
+codec_of bytes f (inr (h, fits, is, found)) = (h.version, h.codec, _, is)
 
 version_of : (bytes : List ℕ) (f : FileFault) → FromCodec bytes f
-    → (rest : List ℕ) × (bytes ≡ codes "OFPK" ++ 1 ∷ rest)
-version_of bytes f (inl (number, rest, fault, long, is, none)) = (number ∷ rest, is)
+    → (version : Version) × (rest : List ℕ)
+    × (bytes ≡ codes "OFPK" ++ version_number version ∷ rest)
+version_of bytes f (inl (version, number, rest, fault, long, is, none)) =
+    (version, number ∷ rest, is)
 version_of bytes f (inr later) =
-    let (codec, rest, is) = codec_of bytes f later in (codec_number codec ∷ rest, is)
+    let (version, codec, rest, is) = codec_of bytes f later in
+    (version, codec_number codec ∷ rest, is)
 
 magic_of : (bytes : List ℕ) (f : FileFault) → FromVersion bytes f
     → take 4 bytes ≡ codes "OFPK"
-magic_of bytes f (inl (version, rest, fault, long, is, other)) = ap (take 4) is
-magic_of bytes f (inr later) = ap (take 4) (version_of bytes f later).1
+magic_of bytes f (inl (number, rest, fault, long, is, none)) = ap (take 4) is
+magic_of bytes f (inr later) = ap (take 4) (version_of bytes f later).2
 
 long_of : (bytes : List ℕ) (f : FileFault) → FromMagic bytes f → length bytes ≡ 26
 long_of bytes f (inl (fault, long, differs)) = long
-long_of bytes f (inr (inl (version, rest, fault, long, is, other))) = long
-long_of bytes f (inr (inr (inl (number, rest, fault, long, is, none)))) = long
-long_of bytes f (inr (inr (inr (inl (codec, a, b, rest, fault, long, is, not_zero))))) = long
+long_of bytes f (inr (inl (number, rest, fault, long, is, none))) = long
+long_of bytes f (inr (inr (inl (version, number, rest, fault, long, is, none)))) = long
+long_of bytes f (inr (inr (inr (inl (version, codec, a, b, rest, fault, long, is, not_zero))))) =
+    long
 long_of bytes f (inr (inr (inr (inr (h, fits, is, found))))) = ap length is
 
 -- so they don't fail those
 not_version : (bytes : List ℕ) (f g : FileFault) → LacksVersion bytes f → FromCodec bytes g → ⊥
-not_version bytes f g (version, rest, fault, long, is, other) later =
-    other (sym (ap (λ l. get_or l 4 0) is) ∙ ap (λ l. get_or l 4 0) (version_of bytes g later).1)
+not_version bytes f g (number, rest, fault, long, is, none) later =
+    let (version, more, its) = version_of bytes g later in
+    none version (sym (ap (λ l. get_or l 4 0) its) ∙ ap (λ l. get_or l 4 0) is)
 
 not_codec : (bytes : List ℕ) (f g : FileFault) → LacksCodec bytes f → FromZeros bytes g → ⊥
-not_codec bytes f g (number, rest, fault, long, is, none) later =
-    let (codec, more, its) = codec_of bytes g later in
+not_codec bytes f g (version, number, rest, fault, long, is, none) later =
+    let (second, codec, more, its) = codec_of bytes g later in
     none codec (sym (ap (λ l. get_or l 5 0) its) ∙ ap (λ l. get_or l 5 0) is)
 
 not_zeros : (bytes : List ℕ) (f g : FileFault) → LacksZeros bytes f → HasFields bytes g → ⊥
-not_zeros bytes f g (codec, a, b, rest, fault, long, is, not_zero) later =
-    let (other, more, its) = zeros_of bytes g later in
+not_zeros bytes f g (version, codec, a, b, rest, fault, long, is, not_zero) later =
+    let (second, other, more, its) = zeros_of bytes g later in
     not_zero (
       sym (ap (λ l. get_or l 6 0) is) ∙ ap (λ l. get_or l 6 0) its,
       sym (ap (λ l. get_or l 7 0) is) ∙ ap (λ l. get_or l 7 0) its,
@@ -175,22 +185,23 @@ module _ (header_one : HeaderIsOne) where
     where
       version_one : (bytes : List ℕ) (f g : FileFault) → LacksVersion bytes f
           → LacksVersion bytes g → f ≡ g
-      version_one bytes f g (version, rest, fault, long, is, other)
-          (second, more, its_fault, its_long, its, its_other) =
+      version_one bytes f g (number, rest, fault, long, is, none)
+          (second, more, its_fault, its_long, its, its_none) =
           fault ∙ ap BadVersion (sym (ap (λ l. get_or l 4 0) is) ∙ ap (λ l. get_or l 4 0) its)
           ∙ sym its_fault
 
       codec_one : (bytes : List ℕ) (f g : FileFault) → LacksCodec bytes f → LacksCodec bytes g
           → f ≡ g
-      codec_one bytes f g (number, rest, fault, long, is, none)
-          (second, more, its_fault, its_long, its, its_none) =
+      codec_one bytes f g (version, number, rest, fault, long, is, none)
+          (other, second, more, its_fault, its_long, its, its_none) =
           fault ∙ ap BadCodec (sym (ap (λ l. get_or l 5 0) is) ∙ ap (λ l. get_or l 5 0) its)
           ∙ sym its_fault
 
       zeros_one : (bytes : List ℕ) (f g : FileFault) → LacksZeros bytes f → LacksZeros bytes g
           → f ≡ g
-      zeros_one bytes f g (codec, a, b, rest, fault, long, is, not_zero)
-          (second, c, d, more, its_fault, its_long, its, its_zero) = fault ∙ sym its_fault
+      zeros_one bytes f g (version, codec, a, b, rest, fault, long, is, not_zero)
+          (other, second, c, d, more, its_fault, its_long, its, its_zero) =
+          fault ∙ sym its_fault
 
   -- the bytes of a header fail no test
   pub header_less : HeaderHasNoFault
@@ -199,11 +210,11 @@ module _ (header_one : HeaderIsOne) where
       less : IsShort (header_bytes h) f ⊎ FromMagic (header_bytes h) f → ⊥
       less (inl (fault, short)) = absurd (omega (arith, short))
       less (inr (inl (fault, long, differs))) = differs refl
-      less (inr (inr (inl (version, rest, fault, long, is, other)))) =
-          other (sym (ap (λ l. get_or l 4 0) is))
-      less (inr (inr (inr (inl (number, rest, fault, long, is, none))))) =
+      less (inr (inr (inl (number, rest, fault, long, is, none)))) =
+          none h.version (ap (λ l. get_or l 4 0) is)
+      less (inr (inr (inr (inl (version, number, rest, fault, long, is, none))))) =
           none h.codec (ap (λ l. get_or l 5 0) is)
-      less (inr (inr (inr (inr (inl (codec, a, b, rest, fault, long, is, not_zero)))))) =
+      less (inr (inr (inr (inr (inl (version, codec, a, b, rest, fault, long, is, not_zero)))))) =
           not_zero (sym (ap (λ l. get_or l 6 0) is), sym (ap (λ l. get_or l 7 0) is))
       less (inr (inr (inr (inr (inr (other, fits, is, found)))))) =
           let equal : h ≡ other = header_one h other header.bits fits is in

@@ -13,10 +13,10 @@ use Rattle.packet_file.specs.OnePacket.{StopsBefore, TakesPacketOf}
 use Rattle.packet_file.specs.OneReading.Stop.{End, Enough, Failed, Bad}
 
 -- the bytes of packets, with one more
-pub spelled_more : (packets : List Packet) (p : Packet)
-    → spelled (packets ++ p ∷ []) ≡ spelled packets ++ packet_bytes p.0 p.1
-spelled_more packets p = flat_map-append (λ (a : Packet). packet_bytes a.0 a.1) packets (p ∷ [])
-    ∙ ap (λ l. spelled packets ++ l) (append-nil (packet_bytes p.0 p.1))
+pub spelled_more : (h : HeaderFields) (packets : List Packet) (p : Packet)
+    → spelled h (packets ++ p ∷ []) ≡ spelled h packets ++ packet_bytes h p
+spelled_more h packets p = flat_map-append (packet_bytes h) packets (p ∷ [])
+    ∙ ap (λ l. spelled h packets ++ l) (append-nil (packet_bytes h p))
 
 -- what stops a reading stops one that began before
 pub stops_since : (h : HeaderFields) (most index : ℕ) (input mid now : Stream) (piece : List ℕ)
@@ -45,18 +45,18 @@ module _ (h : HeaderFields) (most : ℕ) where
       → TakesPacketOf h most index mid now p
       → Reads h [] most input now (packets ++ p ∷ []) Enough
   reads_more input mid now packets index p r counted one =
-      let before : Consumes input.bytes mid.bytes (spelled packets) =
-      subst (Consumes input.bytes mid.bytes) (append-nil (spelled packets))
-      (subst (λ l. Consumes input.bytes mid.bytes (spelled packets ++ l)) r.stopped r.taken) in
-      let all : spelled packets ++ packet_bytes p.0 p.1 ≡ spelled (packets ++ p ∷ []) ++ [] =
-      sym (spelled_more packets p) ∙ sym (append-nil (spelled (packets ++ p ∷ []))) in
+      let before : Consumes input.bytes mid.bytes (spelled h packets) =
+      subst (Consumes input.bytes mid.bytes) (append-nil (spelled h packets))
+      (subst (λ l. Consumes input.bytes mid.bytes (spelled h packets ++ l)) r.stopped r.taken) in
+      let all : spelled h packets ++ packet_bytes h p ≡ spelled h (packets ++ p ∷ []) ++ [] =
+      sym (spelled_more h packets p) ∙ sym (append-nil (spelled h (packets ++ p ∷ []))) in
       record {
         each = All-push (IsPacketOf h) packets p r.each one.packet;
         few = omega (arith, one.within, counted, length-append packets (p ∷ []));
         piece = [];
         taken = subst (Consumes input.bytes now.bytes) all
-            (Consumes-trans input.bytes mid.bytes now.bytes (spelled packets)
-            (packet_bytes p.0 p.1) before one.taken);
+            (Consumes-trans input.bytes mid.bytes now.bytes (spelled h packets)
+            (packet_bytes h p) before one.taken);
         stopped = refl;
       }
 
@@ -66,14 +66,15 @@ module _ (h : HeaderFields) (most : ℕ) where
       → input.faults ≤ mid.faults → StopsBefore h most index mid now stop
       → Reads h [] most input now packets stop
   reads_stop input mid now packets index stop r counted later (piece, taken, stops) =
-      let before : Consumes input.bytes mid.bytes (spelled packets) =
-      subst (Consumes input.bytes mid.bytes) (append-nil (spelled packets))
-      (subst (λ l. Consumes input.bytes mid.bytes (spelled packets ++ l)) r.stopped r.taken) in
+      let before : Consumes input.bytes mid.bytes (spelled h packets) =
+      subst (Consumes input.bytes mid.bytes) (append-nil (spelled h packets))
+      (subst (λ l. Consumes input.bytes mid.bytes (spelled h packets ++ l)) r.stopped r.taken) in
       record {
         each = r.each;
         few = r.few;
         piece = piece;
-        taken = Consumes-trans input.bytes mid.bytes now.bytes (spelled packets) piece before taken;
+        taken = Consumes-trans input.bytes mid.bytes now.bytes (spelled h packets) piece before
+            taken;
         stopped = stops_since h most (length packets) input mid now piece stop later
             (subst (λ (i : ℕ). StopsAt h most i mid now piece stop) (sym counted) stops);
       }
@@ -86,7 +87,7 @@ module _ (h : HeaderFields) (most : ℕ) where
     each = r.each;
     few = r.few;
     piece = r.piece;
-    taken = Consumes-trans input.bytes mid.bytes now.bytes opened (spelled packets ++ r.piece) taken
-        r.taken;
+    taken = Consumes-trans input.bytes mid.bytes now.bytes opened (spelled h packets ++ r.piece)
+        taken r.taken;
     stopped = stops_since h most (length packets) input mid now r.piece stop later r.stopped;
   }

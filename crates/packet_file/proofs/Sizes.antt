@@ -23,6 +23,7 @@ use Rattle.oti_fields.specs.declared.check.FieldFault.TheVariants.{SymbolZero, G
 use Rattle.oti_fields.specs.declared.check.FieldFault.TheVariants.{BlockZero, MaxBelowBlock}
 use Rattle.oti_fields.specs.declared.check.FieldFault.TheVariants.{MaxTooLarge}
 use Rattle.oti_fields.specs.declared.oti.Oti.{Oti}
+use Rattle.packet_file.specs.declared.version.Version.TheVariants.{One}
 use Rattle.packet_file.specs.Header.{HeaderFields, has_large_block, source_counts, symbol_count}
 use Rattle.packet_file.specs.Header.{symbols_by}
 
@@ -159,7 +160,7 @@ first_greatest total count = first_of_runs (total - total / count * count) (div_
 
 module _ (codec : Codec) (oti : Oti) (is : field_fault codec oti ≡ None) where
   abbrev made : HeaderFields
-  made = record { codec = codec; oti = oti }
+  made = record { version = One; codec = codec; oti = oti }
 
   sizes : HasSizes codec oti
   sizes = fields_have_sizes codec oti is

@@ -1,32 +1,16 @@
 -- Headers and packets as bytes.
-use Rattle.std.proofs.Common.{◌≡◌, ℕ, ◌<◌, List, [], ◌∷◌, ◌++◌, length, take, drop}
+use Rattle.std.proofs.Common.{◌≡◌, ℕ, List, [], ◌∷◌, ◌++◌, length, take, drop}
 use Rattle.std.proofs.Common.{slice_index, codes, sym, ap, ap₂, ◌∙◌, arith}
-use Rattle.std.proofs.Common.{take-append-drop, length-take-le, length-drop, Result, Ok}
+use Rattle.std.proofs.Common.{take-append-drop, length-drop, Result, Ok}
 use Rattle.std.proofs.Common.{Err, IfOk, IfErr}
 use Rattle.std.proofs.Math.Seq.{drop-cons}
 use Rattle.std.proofs.lemmas.List.{take_all}
-use Rattle.std.proofs.lemmas.List.Elements.{All-take}
 use Rattle.oti_fields.specs.Fields.{codec_number, oti_bytes}
-use Rattle.oti_fields.specs.Laws.{IdIsSpelled}
 use Rattle.oti_fields.specs.declared.codec.Codec.{Codec}
 use Rattle.packet_file.specs.Faults.{AreNotZero, HasHeaderFault}
-use Rattle.packet_file.specs.Header.{HeaderFields, header_bytes}
-use Rattle.packet_file.specs.Laws.{PacketIsSpelled}
+use Rattle.packet_file.specs.Header.{HeaderFields, header_bytes, version_number}
+use Rattle.packet_file.specs.declared.version.Version.{Version}
 use Rattle.packet_file.specs.declared.fault.FileFault.TheVariants.{BadReserved}
-
--- as many bytes as a packet has spell one, since four bytes spell an identifier
-pub packet_spelled : IdIsSpelled → PacketIsSpelled
-packet_spelled id_spelled bytes len long all =
-    let four : length (take 4 bytes) ≡ 4 = length-take-le 4 bytes (omega (arith, long)) in
-    let id = id_spelled (take 4 bytes) four (All-take (λ byte. byte < 256) 4 bytes all) in
-    let rest : length (drop 4 bytes) ≡ len = omega (arith, length-drop 4 bytes, long) in (
-      id.0,
-      drop 4 bytes,
-      id.1,
-      rest,
-      sym (take-append-drop 4 bytes)
-          ∙ ap (λ front. front ++ drop 4 bytes) id.2,
-    )
 
 -- eight bytes in front of a header's fields
 pub eight_bytes : (bytes : List ℕ) → length bytes ≡ 26 → take 4 bytes ≡ codes "OFPK"
@@ -47,22 +31,23 @@ eight_bytes bytes long magic =
     ∙ ap (λ l. slice_index bytes 6 ∷ l) eighth)) in
     sym (take-append-drop 4 bytes) ∙ ap₂ (λ front rest. front ++ rest) magic behind
 
--- bytes with the magic, the version and a codec, and then two bytes that aren't both zero
-pub not_reserved : (bytes : List ℕ) (codec : Codec) → length bytes ≡ 26
-    → take 4 bytes ≡ codes "OFPK" → slice_index bytes 4 ≡ 1
+-- bytes with the magic, a version and a codec, and then two bytes that aren't both zero
+pub not_reserved : (bytes : List ℕ) (version : Version) (codec : Codec) → length bytes ≡ 26
+    → take 4 bytes ≡ codes "OFPK" → version_number version ≡ slice_index bytes 4
     → codec_number codec ≡ slice_index bytes 5
     → AreNotZero (slice_index bytes 6) (slice_index bytes 7) → HasHeaderFault bytes BadReserved
-not_reserved bytes codec long magic version number not_zero =
+not_reserved bytes version codec long magic form number not_zero =
     let a : ℕ = slice_index bytes 6 in
     let b : ℕ = slice_index bytes 7 in
-    let is : bytes ≡ codes "OFPK" ++ 1 ∷ codec_number codec ∷ a ∷ b ∷ drop 8 bytes =
-    eight_bytes bytes long magic ∙ ap₂ (λ v n. codes "OFPK" ++ v ∷ n ∷ a ∷ b ∷ drop 8 bytes) version
-    (sym number) in
-    (long, codec, a, b, drop 8 bytes, is, not_zero)
+    let is : bytes ≡ codes "OFPK" ++ version_number version ∷ codec_number codec ∷ a ∷ b ∷ drop 8
+    bytes =
+    eight_bytes bytes long magic ∙ ap₂ (λ v n. codes "OFPK" ++ v ∷ n ∷ a ∷ b ∷ drop 8 bytes)
+    (sym form) (sym number) in
+    (long, version, codec, a, b, drop 8 bytes, is, not_zero)
 
 -- eight bytes without a fault, and the fields behind them
 pub header_joined : (bytes fields : List ℕ) (h : HeaderFields) → length bytes ≡ 26
-    → take 8 bytes ≡ codes "OFPK" ++ 1 ∷ codec_number h.codec ∷ 0 ∷ 0 ∷ []
+    → take 8 bytes ≡ codes "OFPK" ++ version_number h.version ∷ codec_number h.codec ∷ 0 ∷ 0 ∷ []
     → fields ≡ take 18 (drop 8 bytes) → fields ≡ oti_bytes h.oti → bytes ≡ header_bytes h
 header_joined bytes fields h long front rest spelled =
     let all : take 18 (drop 8 bytes) ≡ drop 8 bytes = take_all 18 (drop 8 bytes)

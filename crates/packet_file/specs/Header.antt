@@ -1,4 +1,4 @@
--- The header of a packet file, version 1, and the blocks that it speaks of.
+-- The header of a packet file, and the blocks that it speaks of.
 use Rattle.std.specs.Prelude.{◌≡◌, ℕ, ◌*◌, Bool, nat_lt, if◌then◌else◌, List, ◌∷◌, ◌++◌, Option}
 use Rattle.std.specs.Prelude.{Some, None, map, sum, codes, unwrap_or}
 use Rattle.std.specs.List.{list_any}
@@ -12,15 +12,24 @@ use Rattle.packet_file.specs.declared.fault.Limit.TheVariants.{Length, BlockByte
 use Rattle.packet_file.specs.declared.fault.Limit.TheVariants.{AllBytes}
 use Rattle.packet_file.specs.declared.fault.FileFault.{FileFault}
 use Rattle.packet_file.specs.declared.fault.FileFault.TheVariants.{TooLarge, TooManyBlocks}
+use Rattle.packet_file.specs.declared.version.Version.{Version}
+use Rattle.packet_file.specs.declared.version.Version.TheVariants.{One, Two}
 
--- the codec, and the transmission information
+-- the number of a version
+abbrev pub version_number : Version → ℕ
+version_number One = 1
+version_number Two = 2
+
+-- the version, the codec, and the transmission information
 pub record HeaderFields : Type 0 where
+  pub version : Version
   pub codec : Codec
   pub oti : Oti
 
 -- the magic, the version, the codec, two reserved bytes, and the transmission information
 abbrev pub header_bytes : HeaderFields → List ℕ
-header_bytes h = codes "OFPK" ++ 1 ∷ codec_number h.codec ∷ 0 ∷ 0 ∷ oti_bytes h.oti
+header_bytes h = codes "OFPK" ++ version_number h.version ∷ codec_number h.codec ∷ 0 ∷ 0
+    ∷ oti_bytes h.oti
 
 -- how many source symbols each source block has
 abbrev pub source_counts : HeaderFields → List ℕ

@@ -1,9 +1,10 @@
 pub mod Header
 pub mod Packets
+pub mod Pieces
 pub mod Faults
-pub mod Reading
 pub mod Taking
 pub mod OneReading
 pub mod OnePacket
+pub mod Files
 pub mod Laws
 pub mod FaultLaws

@@ -11,7 +11,7 @@ pub record TakesPacketOf (h : HeaderFields) (most index : ℕ) (input input_now 
     (p : Packet) : Type 0 where
   pub packet : IsPacketOf h p
   pub within : index < most
-  pub taken : Consumes input.bytes input_now.bytes (packet_bytes p.0 p.1)
+  pub taken : Consumes input.bytes input_now.bytes (packet_bytes h p)
 
 -- a piece was taken that is no packet number `index`, of at most `most`, and the reading stopped
 abbrev pub StopsBefore : HeaderFields → ℕ → ℕ → Stream → Stream → Stop → Type 0

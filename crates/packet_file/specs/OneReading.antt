@@ -1,10 +1,11 @@
 -- One reading of a packet file: what was taken of the input, and why it stopped.
-use Rattle.std.specs.Prelude.{◌≡◌, ◌<◌, ◌≤◌, ◌+◌, ℕ, List, [], ◌++◌, length, All}
+use Rattle.std.specs.Prelude.{◌≡◌, ◌<◌, ◌≤◌, ℕ, List, [], ◌++◌, length, All}
 use Rattle.std.specs.Io.KnownBytes.{Consumes, IsAtEnd}
 use Rattle.fec_base.specs.Causes.{Rose}
 use Rattle.fec_base.specs.Outside.{Stream}
 use Rattle.packet_file.specs.Header.{HeaderFields, IsHeader, header_bytes}
 use Rattle.packet_file.specs.Packets.{IsPacketOf, Packet, spelled}
+use Rattle.packet_file.specs.Pieces.{IsBroken}
 use Rattle.packet_file.specs.Faults.{HasHeaderFault, HasPacketFault}
 use Rattle.packet_file.specs.declared.fault.FileFault.{FileFault}
 use Rattle.packet_file.specs.declared.fault.FileFault.TheVariants.{ReadFault}
@@ -22,22 +23,18 @@ abbrev pub stop_by : FileFault → Stop
 stop_by ReadFault = Failed
 stop_by fault = Bad fault
 
--- a piece breaks off: it is shorter than a packet
-abbrev pub IsBroken : HeaderFields → List ℕ → Type 0
-IsBroken h piece = length piece < 4 + h.oti.symbol
-
 -- the bytes that were taken are no packet number `index` of at most `most`, with this fault; they
 -- break off only where the input ended
 abbrev pub IsBadPiece : HeaderFields → ℕ → ℕ → Stream → List ℕ → FileFault → Type 0
 IsBadPiece h most index input_now piece fault = HasPacketFault h index most piece fault
-    × (IsBroken h piece → IsAtEnd input_now.bytes)
+    × (IsBroken h index most piece → IsAtEnd input_now.bytes)
 
 -- behind `index` packets, of at most `most`, this piece was taken, and then the reading stopped
 abbrev pub StopsAt : HeaderFields → ℕ → ℕ → Stream → Stream → List ℕ → Stop → Type 0
 StopsAt h most index input input_now piece End = (piece ≡ []) × IsAtEnd input_now.bytes
 StopsAt h most index input input_now piece Enough = piece ≡ []
 StopsAt h most index input input_now piece Failed = Rose input.faults input_now.faults
-    × IsBroken h piece
+    × IsBroken h index most piece
 StopsAt h most index input input_now piece (Bad fault) =
     IsBadPiece h most index input_now piece fault
 
@@ -48,7 +45,7 @@ pub record Reads (h : HeaderFields) (opened : List ℕ) (most : ℕ) (input inpu
   pub each : All (IsPacketOf h) packets
   pub few : length packets ≤ most
   pub piece : List ℕ
-  pub taken : Consumes input.bytes input_now.bytes (opened ++ (spelled packets ++ piece))
+  pub taken : Consumes input.bytes input_now.bytes (opened ++ (spelled h packets ++ piece))
   pub stopped : StopsAt h most (length packets) input input_now piece stop
 
 -- a packet file was read: its header, and then its packets

@@ -23,7 +23,7 @@ pub enum FileFault {
     ShortHeader { have: u32 },
     /// The first four bytes aren't `OFPK`.
     BadMagic,
-    /// The version isn't 1.
+    /// No version has the number.
     BadVersion(u8),
     /// No codec has the number.
     BadCodec(u8),
@@ -37,6 +37,10 @@ pub enum FileFault {
     NoSuchBlock { index: u64, sbn: u32 },
     /// A packet is of an encoding symbol that its block doesn't have.
     NoSuchSymbol { index: u64, esi: u32 },
+    /// A packet of version 2 has another length than its encoding symbol has.
+    BadLength { index: u64, length: u32 },
+    /// A packet's padding isn't zero, so version 2 can't have it.
+    BadPadding { index: u64 },
     /// A size passes its limit.
     TooLarge(Limit),
     /// There are more than 4,096 blocks.
@@ -79,6 +83,11 @@ impl fmt::Display for FileFault {
                 f,
                 "packet {index}: its block has no symbol {esi}"
             ),
+            FileFault::BadLength { index, length } => write!(
+                f,
+                "packet {index}: its length isn't {length}"
+            ),
+            FileFault::BadPadding { index } => write!(f, "packet {index}: its padding isn't zero"),
             FileFault::TooLarge(limit) => write!(f, "too large: {limit}"),
             FileFault::TooManyBlocks => write!(f, "more than 4096 blocks"),
             FileFault::TooManyPackets => write!(f, "more packets than may be read"),

@@ -1,17 +1,23 @@
 // The header, and the sizes of its blocks.
-ghost use Rattle.std.specs.Prelude.{◌≡◌, ◌<◌, ◌≤◌, ◌*◌, length, slice_index, Some, None, IfOk};
-ghost use Rattle.std.specs.Prelude.{IfErr, OnOk};
+ghost use Rattle.std.specs.Prelude.{◌≡◌, ◌<◌, ◌≤◌, ◌*◌, ◌⊎◌, ◌↔◌, IsTrue, length, slice_index};
+ghost use Rattle.std.specs.Prelude.{Some, None, IfOk, IfErr, OnOk};
 ghost use Rattle.oti_fields.specs.Fields.{FitsBits};
 ghost use Rattle.oti_fields.specs.Faults.{field_fault};
 ghost use Rattle.packet_file.specs.Header.{IsHeader, size_fault, source_counts, symbols_by};
-ghost use Rattle.packet_file.specs.Header.{total_symbols};
-ghost use Rattle.packet_file.specs.Packets.{block_symbols};
+ghost use Rattle.packet_file.specs.Header.{total_symbols, version_number};
+ghost use Rattle.packet_file.specs.Packets.{IsIdOf, block_symbols, is_last, last_len, payload_len};
+ghost use Rattle.packet_file.specs.Packets.{true_len};
+ghost use Rattle.packet_file.specs.Files.{HasZeroPadding};
+ghost use Rattle.packet_file.specs.declared.version.Version.{Version};
+ghost use Rattle.packet_file.specs.declared.version.Version.TheVariants.{One};
 ghost use Rattle.blocking.specs.Blocks.{block_count};
 
+use crate::version::Version;
 use crate::{FileFault, Limit};
 use blocking::{Plan, TooManyBlocks, ldpc_n};
-use oti_fields::{Codec, Oti};
+use oti_fields::{Codec, Oti, PacketId};
 use std::marker::Model;
+use xor_lanes::is_zero;
 
 // The limits of a file's sizes.
 const MOST_BYTES: u64 = 268_435_456;
@@ -22,10 +28,11 @@ const MOST_SYMBOLS: u64 = 4_194_304;
 
 const MOST_SYMBOL_BYTES: u64 = 536_870_912;
 
-/// What the header of a packet file says: the codec and the transmission information, whose fields
-/// have no fault and whose sizes are within the limits, and the plan of the blocks.
+/// What the header of a packet file says: the version, the codec and the transmission information,
+/// whose fields have no fault and whose sizes are within the limits, and the plan of the blocks.
 #[derive(Drop)]
 pub struct Header {
+    version: Version,
     codec: Codec,
     oti: Oti,
     plan: Plan,
@@ -37,21 +44,22 @@ impl Model for Header {
 
     ghost Value = { HeaderFields };
 
-    ghost view = { λ h. record { codec = h.codec; oti = h.oti } };
+    ghost view = { λ h. record { version = h.version; codec = h.codec; oti = h.oti } };
 
-    ghost invariant = { λ h. IsHeader (record { codec = h.codec; oti = h.oti })
-        × (h.plan ≡ source_counts (record { codec = h.codec; oti = h.oti })) };
+    ghost invariant = { λ h. IsHeader (record { version = h.version; codec = h.codec; oti = h.oti })
+        × (h.plan ≡ source_counts (record { version = h.version; codec = h.codec; oti = h.oti })) };
 }
 
 impl Header {
-    /// The header of these fields, or the first limit that its sizes pass: `TooManyBlocks` or
-    /// `TooLarge`, in the order length, blocks, bytes of a block, symbols, bytes.
+    /// The header of these fields, of version 1, or the first limit that its sizes pass:
+    /// `TooManyBlocks` or `TooLarge`, in the order length, blocks, bytes of a block, symbols,
+    /// bytes.
     pub fn new(codec: Codec, oti: Oti) -> Result<Header, FileFault>
         requires bits { FitsBits oti }
         requires fields { field_fault codec oti ≡ None }
-        ensures ok { IfOk result (λ h. h ≡ record { codec = codec; oti = oti }) }
-        ensures err { IfErr result (λ fault. size_fault (record { codec = codec; oti = oti })
-            ≡ Some fault) }
+        ensures ok { IfOk result (λ h. h ≡ record { version = One; codec = codec; oti = oti }) }
+        ensures err { IfErr result (λ fault.
+            size_fault (record { version = One; codec = codec; oti = oti }) ≡ Some fault) }
     {
         if oti.length > MOST_BYTES {
             return Err(FileFault::TooLarge(Limit::Length));
@@ -61,7 +69,56 @@ impl Header {
             Err(TooManyBlocks) => return Err(FileFault::TooManyBlocks),
         };
         check_sizes(codec, &oti, &plan)?;
-        Ok(Header { codec, oti, plan })
+        Ok(Header {
+            version: Version::One,
+            codec,
+            oti,
+            plan,
+        })
+    }
+
+    /// The same header once more.
+    pub fn copy(&self) -> Header
+        ensures { result ≡ self.now }
+    {
+        match Header::new(self.codec(), *self.oti()) {
+            Ok(header) => header.of_version(self.form()),
+            Err(_) => unreachable!(),
+        }
+    }
+
+    /// The same header but for its version, which is 1 or 2.
+    pub fn with_version(self, version: u8) -> Header
+        requires { (version ≡ 1) ⊎ (version ≡ 2) }
+        ensures { (v : Version) → version_number v ≡ version
+            → result ≡ record self { version = v } }
+    {
+        match Version::from_number(version) {
+            Some(version) => self.of_version(version),
+            None => unreachable!(),
+        }
+    }
+
+    /// The version: 1 or 2.
+    pub fn version(&self) -> u8
+        ensures { result ≡ version_number self.now.version }
+    {
+        self.version.number()
+    }
+
+    // The same header, of this version.
+    pub(crate) fn of_version(mut self, version: Version) -> Header
+        ensures { result ≡ record self { version = version } }
+    {
+        self.version = version;
+        self
+    }
+
+    // How the packets are spelled.
+    pub(crate) fn form(&self) -> Version
+        ensures { result ≡ self.now.version }
+    {
+        self.version
     }
 
     /// The codec.
@@ -116,6 +173,46 @@ impl Header {
         count_symbols(self.codec, &self.oti, self.plan.block_len(i))
     }
 
+    /// How many bytes of an encoding symbol are no padding: all, but where it is the last source
+    /// symbol of the object.
+    pub fn true_len(&self, id: PacketId) -> u32
+        requires { IsIdOf self.now id }
+        ensures value { result ≡ true_len self.now id }
+        ensures some { 1 ≤ result }
+        ensures most { result ≤ self.now.oti.symbol }
+        ensures bits { result ≤ 65535 }
+    {
+        let len = self.symbol_len();
+        if is_last(self, id) {
+            last_len(self.oti())
+        } else {
+            len
+        }
+    }
+
+    /// How many bytes of an encoding symbol its packet has: all, or in version 2 those that are no
+    /// padding.
+    pub fn payload_len(&self, id: PacketId) -> u32
+        requires { IsIdOf self.now id }
+        ensures value { result ≡ payload_len self.now id }
+        ensures some { 1 ≤ result }
+        ensures most { result ≤ self.now.oti.symbol }
+    {
+        match self.version {
+            Version::One => self.oti.symbol,
+            Version::Two => self.true_len(id),
+        }
+    }
+
+    /// Whether the padding of an encoding symbol is zero.
+    pub fn padding_is_zero(&self, id: PacketId, symbol: &[u8]) -> bool
+        requires id { IsIdOf self.now id }
+        requires symbol { length symbol.now ≡ self.now.oti.symbol }
+        ensures { IsTrue result ↔ HasZeroPadding self.now (id, symbol.now) }
+    {
+        is_zero(&symbol[self.true_len(id) as usize..])
+    }
+
     /// How many encoding symbols all blocks have, at most 4,194,304.
     pub fn total_symbols(&self) -> u64
         ensures value { result ≡ total_symbols self.now }
@@ -123,6 +220,29 @@ impl Header {
     {
         sum_symbols(self.codec, &self.oti, &self.plan)
     }
+}
+
+// Whether an encoding symbol is the object's last source symbol.
+fn is_last(h: &Header, id: PacketId) -> bool
+    requires { IsIdOf h.now id }
+    ensures { result ≡ is_last h.now id }
+{
+    // A header's limits let the numbers fit.
+    let oti = h.oti();
+    prove!(oti.symbol == h.symbol_len());
+    id.sbn + 1 == h.plan().count() && id.esi + 1 == h.source_count(id.sbn)
+}
+
+// How many bytes the object has behind all its source symbols but the last.
+fn last_len(oti: &Oti) -> u32
+    requires symbol { 1 ≤ oti.now.symbol }
+    requires bytes { 1 ≤ oti.now.length }
+    ensures value { result ≡ last_len oti.now }
+    ensures some { 1 ≤ result }
+    ensures most { result ≤ oti.now.symbol }
+{
+    let len = oti.symbol as u64;
+    (oti.length - (oti.length.div_ceil(len) - 1) * len) as u32
 }
 
 // How many encoding symbols a block of k source symbols has.
@@ -143,8 +263,10 @@ fn count_symbols(codec: Codec, oti: &Oti, k: u32) -> u32
 // How many encoding symbols all blocks have.
 fn sum_symbols(codec: Codec, oti: &Oti, plan: &Plan) -> u64
     requires fields { field_fault codec oti.now ≡ None }
-    requires plan { plan.now ≡ source_counts (record { codec = codec; oti = oti.now }) }
-    ensures value { result ≡ total_symbols (record { codec = codec; oti = oti.now }) }
+    requires plan { plan.now
+        ≡ source_counts (record { version = One; codec = codec; oti = oti.now }) }
+    ensures value { result
+        ≡ total_symbols (record { version = One; codec = codec; oti = oti.now }) }
     ensures most { result ≤ 4096 * 65536 }
 {
     let mut total = 0;
@@ -160,10 +282,12 @@ fn check_sizes(codec: Codec, oti: &Oti, plan: &Plan) -> Result<(), FileFault>
     requires fields { field_fault codec oti.now ≡ None }
     requires length { oti.now.length ≤ 268435456 }
     requires few { block_count oti.now.length oti.now.symbol oti.now.block ≤ 4096 }
-    requires plan { plan.now ≡ source_counts (record { codec = codec; oti = oti.now }) }
-    ensures ok { OnOk result (size_fault (record { codec = codec; oti = oti.now }) ≡ None) }
-    ensures err { IfErr result (λ fault. size_fault (record { codec = codec; oti = oti.now })
-        ≡ Some fault) }
+    requires plan { plan.now
+        ≡ source_counts (record { version = One; codec = codec; oti = oti.now }) }
+    ensures ok { OnOk result
+        (size_fault (record { version = One; codec = codec; oti = oti.now }) ≡ None) }
+    ensures err { IfErr result (λ fault.
+        size_fault (record { version = One; codec = codec; oti = oti.now }) ≡ Some fault) }
 {
     if plan.count() == 0 {
         return Ok(());

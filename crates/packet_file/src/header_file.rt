@@ -5,12 +5,13 @@ ghost use Rattle.std.specs.Io.KnownBytes.{Appends, Consumes};
 ghost use Rattle.fec_base.specs.Bytes.{AppendsFront};
 ghost use Rattle.fec_base.specs.Causes.{HasCause};
 ghost use Rattle.oti_fields.specs.Fields.{codec_number};
-ghost use Rattle.packet_file.specs.Header.{IsHeader, header_bytes};
+ghost use Rattle.packet_file.specs.Header.{IsHeader, header_bytes, version_number};
 ghost use Rattle.packet_file.specs.Faults.{HasHeaderFault};
 ghost use Rattle.packet_file.specs.Taking.{TakesAtMost};
 ghost use Rattle.fec_base.specs.Outside.{stream};
 ghost use Rattle.packet_file.specs.OneReading.{LacksHeader, stop_by};
 
+use crate::version::Version;
 use crate::{FileFault, Header};
 use fec_base::{ReadFailed, Sink, Source, WriteFailed, read_full, write_all};
 use oti_fields::{Codec, read_oti, write_oti};
@@ -19,8 +20,6 @@ use oti_fields::{Codec, read_oti, write_oti};
 pub const HEADER_LEN: usize = 26;
 
 const MAGIC: [u8; 4] = *b"OFPK";
-
-const VERSION: u8 = 1;
 
 /// Reads a header. The first of its faults is named: `ShortHeader`, `BadMagic`, `BadVersion`,
 /// `BadCodec`, `BadReserved`, `Field`, and then those of `Header::new`. `ReadFault` comes only
@@ -48,34 +47,38 @@ fn parse_header(bytes: &[u8; HEADER_LEN]) -> Result<Header, FileFault>
     ensures header { IfOk result IsHeader }
     ensures fault { IfErr result (λ fault. HasHeaderFault bytes.now fault) }
 {
-    let codec = parse_codec(bytes)?;
+    let (version, codec) = parse_front(bytes)?;
     let mut fields = [0u8; 18];
     fields.copy_from_slice(&bytes[8..]);
-    match read_oti(codec, &fields) {
-        Ok(oti) => Header::new(codec, oti),
-        Err(fault) => Err(FileFault::Field(fault)),
+    let oti = match read_oti(codec, &fields) {
+        Ok(oti) => oti,
+        Err(fault) => return Err(FileFault::Field(fault)),
+    };
+    match Header::new(codec, oti) {
+        Ok(header) => Ok(header.of_version(version)),
+        Err(fault) => Err(fault),
     }
 }
 
-// The codec of a header, whose first eight bytes have no fault.
-fn parse_codec(bytes: &[u8; HEADER_LEN]) -> Result<Codec, FileFault>
-    ensures ok { IfOk result (λ codec. take 8 bytes.now
-        ≡ codes "OFPK" ++ 1 ∷ codec_number codec ∷ 0 ∷ 0 ∷ []) }
+// The version and the codec of a header, whose first eight bytes have no fault.
+fn parse_front(bytes: &[u8; HEADER_LEN]) -> Result<(Version, Codec), FileFault>
+    ensures ok { IfOk result (λ found. take 8 bytes.now
+        ≡ codes "OFPK" ++ version_number found.0 ∷ codec_number found.1 ∷ 0 ∷ 0 ∷ []) }
     ensures fault { IfErr result (λ fault. HasHeaderFault bytes.now fault) }
 {
     if bytes[..4] != MAGIC[..] {
         return Err(FileFault::BadMagic);
     }
-    if bytes[4] != VERSION {
+    let Some(version) = Version::from_number(bytes[4]) else {
         return Err(FileFault::BadVersion(bytes[4]));
-    }
+    };
     let Some(codec) = Codec::from_number(bytes[5]) else {
         return Err(FileFault::BadCodec(bytes[5]));
     };
     if bytes[6] != 0 || bytes[7] != 0 {
         return Err(FileFault::BadReserved);
     }
-    Ok(codec)
+    Ok((version, codec))
 }
 
 /// Writes the 26 bytes of a header. After `WriteFailed` the sink has a front of them.
@@ -97,7 +100,7 @@ fn spell_header(h: &Header) -> [u8; HEADER_LEN]
     write_oti(h.oti(), &mut fields);
     let mut bytes = [0u8; HEADER_LEN];
     bytes[..4].copy_from_slice(&MAGIC);
-    bytes[4] = VERSION;
+    bytes[4] = h.version();
     bytes[5] = h.codec().number();
     bytes[8..].copy_from_slice(&fields);
     bytes

@@ -9,9 +9,10 @@ mod header;
 mod header_file;
 mod laws;
 mod packets;
+mod version;
 
 pub use fault::{FileFault, Limit};
 pub use header::Header;
 pub use header_file::{HEADER_LEN, read_header, write_header};
 pub use laws::{files_have_one_fault, headers_and_packets_have_one_spelling};
-pub use packets::{IDENTIFIER_LEN, next_packet, write_packet};
+pub use packets::{HEAD_LEN, IDENTIFIER_LEN, next_packet, spell_packet, write_head, write_packet};

@@ -13,7 +13,8 @@ use packet_file::{Header, next_packet};
 
 /// Takes in the packets that follow the header of a file, at most `most`: to the end of the input,
 /// or to the first after which the taker wants no more. They are read into `piece`, which is as
-/// long as a packet, and the taker has each before a further byte is asked for. Says how many.
+/// long as an identifier and an encoding symbol, and the taker has each before a further byte is
+/// asked for. Says how many.
 pub fn take_packets<S: Source, T: PacketTaker>(
     input: &mut S,
     header: &Header,

@@ -30,9 +30,9 @@ pub trait PacketTaker {
         ensures done { result ≡ true → done self.now }
         ensures wanting { result ≡ false → ¬ done self.now };
 
-    /// Takes in packet number `index` of a file for whose packets it has a place. The bytes of the
-    /// packet are `bytes`: its identifier, and from the fifth on its encoding symbol. It may fail
-    /// within the packet.
+    /// Takes in packet number `index` of a file for whose packets it has a place: `bytes` are its
+    /// identifier, and from the fifth on its encoding symbol, padded. It may fail within the
+    /// packet.
     fn take(&mut self, index: u64, id: PacketId, bytes: &[u8]) -> Result<(), TakerFailed>
         requires { (h : HeaderFields) × fits h self.old × IsPacketBytes h id bytes.now }
         ensures fits { (h : HeaderFields) → fits h self.old → IsPacketBytes h id bytes.now

@@ -69,9 +69,9 @@ module _ (pass : Pass) (most : ℕ) (h : HeaderFields) (input mid now output out
     (later : input.faults ≤ mid.faults) (sink_later : output.faults ≤ out_mid.faults) where
   pub written_behind : (packets : List Packet) (stop : Stop)
       → PassesPackets pass most h mid now out_mid out_now packets stop
-      → Appends output.bytes out_now.bytes (head_of pass h ++ texts pass packets)
+      → Appends output.bytes out_now.bytes (head_of pass h ++ texts pass h packets)
   written_behind packets stop s = Appends-trans output.bytes out_mid.bytes out_now.bytes
-      (head_of pass h) (texts pass packets) written s.written
+      (head_of pass h) (texts pass h packets) written s.written
 
   pub read_behind : (packets : List Packet) (stop : Stop)
       → PassesPackets pass most h mid now out_mid out_now packets stop
@@ -83,14 +83,30 @@ module _ (pass : Pass) (most : ℕ) (h : HeaderFields) (input mid now output out
       → EndsEarly pass most h mid now out_mid out_now refusal
       → WritesEarly pass most input now output out_now refusal
   ends_early Memory ends = absurd ends
-  ends_early (File fault) (packets, s) = (
-    head_of pass h ++ texts pass packets,
+  ends_early (File fault) (inl (packets, s)) = (
+    head_of pass h ++ texts pass h packets,
     written_behind packets (stop_by fault) s,
-    inr (h, packets, read_behind packets (stop_by fault) s, refl),
+    inr (inl (h, packets, read_behind packets (stop_by fault) s, s.fit, refl)),
     λ is. absurd (cc is),
   )
-  ends_early Output (before, last, read, (n, some_left, cut, rose)) =
-      let behind : List ℕ = texts pass before ++ take n (text_of pass (length before) last) in (
+  ends_early (File fault) (inr (before, last, read, fit, unfit, is, behind)) = (
+    head_of pass h ++ texts pass h before,
+    Appends-trans output.bytes out_mid.bytes out_now.bytes (head_of pass h) (texts pass h before)
+        written behind,
+    inr (inr (
+      h,
+      before,
+      last,
+      file_read most h input mid now (before ++ last ∷ []) Enough header taken later read,
+      fit,
+      unfit,
+      is,
+      refl,
+    )),
+    λ same. absurd (cc same),
+  )
+  ends_early Output (before, last, read, fit, (n, some_left, cut, rose)) =
+      let behind : List ℕ = texts pass h before ++ take n (text_of pass h (length before) last) in (
         head_of pass h ++ behind,
         Appends-trans output.bytes out_mid.bytes out_now.bytes (head_of pass h) behind written cut,
         (
@@ -99,6 +115,7 @@ module _ (pass : Pass) (most : ℕ) (h : HeaderFields) (input mid now output out
             before,
             last,
             file_read most h input mid now (before ++ last ∷ []) Enough header taken later read,
+            fit,
             (n, some_left, refl),
           ),
         ),

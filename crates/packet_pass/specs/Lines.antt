@@ -7,7 +7,7 @@ use Rattle.oti_fields.specs.declared.codec.Codec.TheVariants.{Staircase, Triangl
 use Rattle.oti_fields.specs.declared.codec.Codec.TheVariants.{Corner2d}
 use Rattle.oti_fields.specs.declared.oti.Oti.{Oti}
 use Rattle.packet_file.specs.Header.{HeaderFields, source_counts}
-use Rattle.packet_file.specs.Packets.{Packet}
+use Rattle.packet_file.specs.Packets.{Packet, payload}
 
 -- the name of a code and its parameters: N1 and the seed, or the width of the grid
 abbrev pub codec_text : Codec → Oti → List ℕ
@@ -25,12 +25,13 @@ header_line h = codec_text h.codec h.oti
     ++ codes " block " ++ decimal h.oti.block ++ codes " max " ++ decimal h.oti.max_n
     ++ codes " blocks " ++ decimal (length (source_counts h)) ++ codes "\n"
 
--- the first 16 bytes of a symbol, or all of a shorter one, in lower-case hexadecimal
+-- the first 16 bytes of a payload, or all of a shorter one, in lower-case hexadecimal
 abbrev pub shown : List ℕ → List ℕ
-shown symbol = encode_lower (take 16 symbol)
+shown bytes = encode_lower (take 16 bytes)
 
--- the line of packet i, counted from 0: its block, its encoding symbol, and how that begins
-abbrev pub packet_line : ℕ → Packet → List ℕ
-packet_line i p = codes "packet " ++ decimal i
+-- the line of packet i, counted from 0: its block, its encoding symbol, and how its payload begins
+-- as it stands in the file
+abbrev pub packet_line : HeaderFields → ℕ → Packet → List ℕ
+packet_line h i p = codes "packet " ++ decimal i
     ++ codes " block " ++ decimal p.0.sbn ++ codes " symbol " ++ decimal p.0.esi
-    ++ codes " bytes " ++ shown p.1 ++ codes "\n"
+    ++ codes " bytes " ++ shown (payload h p) ++ codes "\n"

@@ -16,6 +16,9 @@ pub enum Pass {
     /// A line for the header, and then a line for each packet. It has the packet's number from 0
     /// up, its identifier, and its first 16 bytes in lower-case hexadecimal.
     Show,
+    /// The packet file in version 2: the header, and then each packet, without its padding. A packet
+    /// whose padding isn't zero is refused.
+    Upgrade,
 }
 
 /// A pass that came to the end of the input.
@@ -23,7 +26,7 @@ pub enum Pass {
 pub struct Passed {
     /// How many packets came.
     pub packets: u64,
-    /// How many of them are kept. A pass that shows keeps all.
+    /// How many of them are kept. A pass that shows or upgrades keeps all.
     pub kept: u64,
 }
 

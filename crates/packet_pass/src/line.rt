@@ -115,15 +115,18 @@ fn put_code(line: &mut Line, codec: Codec, oti: &Oti)
 }
 
 /// Makes the line of packet number `index`.
-pub fn put_packet_line(line: &mut Line, index: u64, id: PacketId, symbol: &[u8])
-    ensures { line.new ≡ packet_line index (id, symbol.now) }
+pub fn put_packet_line(line: &mut Line, header: &Header, index: u64, id: PacketId, symbol: &[u8])
+    requires id { IsIdOf header.now id }
+    requires symbol { length symbol.now ≡ header.now.oti.symbol }
+    ensures { line.new ≡ packet_line header.now index (id, symbol.now) }
 {
+    let len = header.payload_len(id) as usize;
     line.clear();
     line.put_field("packet ", index);
     line.put_field(" block ", id.sbn as u64);
     line.put_field(" symbol ", id.esi as u64);
     line.put(b" bytes ");
-    put_shown(line, symbol);
+    put_shown(line, &symbol[..len]);
     line.put(b"\n");
 }
 

@@ -1,9 +1,12 @@
 // The pass itself.
 ghost use Rattle.std.specs.Prelude.{◌≡◌, ◌+◌, ◌≤◌, List, true, false, length, Ok, IfOk, IfErr};
+ghost use Rattle.std.specs.Prelude.{OnOk, OnErr};
 ghost use Rattle.fec_base.specs.Outside.{stream};
-ghost use Rattle.packet_file.specs.Packets.{Packet};
+ghost use Rattle.packet_file.specs.Packets.{IsPacketOf, Packet};
+ghost use Rattle.packet_file.specs.Files.{HasZeroPadding};
 ghost use Rattle.packet_file.specs.OnePacket.{StopsBefore};
 ghost use Rattle.packet_file.specs.OneReading.Stop.{End};
+ghost use Rattle.packet_pass.specs.Pass.{IsFitFor};
 ghost use Rattle.packet_pass.specs.Written.{WritesEarly, WritesWhole};
 ghost use Rattle.packet_pass.specs.Ranges.{IsPass};
 ghost use Rattle.packet_pass.specs.Writing.{EndsAtPacket, EndsEarly, HasWritten, PassesOne};
@@ -12,7 +15,8 @@ ghost use Rattle.packet_pass.specs.Writing.{PassesPackets};
 use crate::writer::{PassWriter, put_head, put_packet};
 use crate::{Pass, PassRefusal, Passed};
 use fec_base::{Sink, Source};
-use packet_file::{Header, IDENTIFIER_LEN, next_packet, read_header};
+use oti_fields::PacketId;
+use packet_file::{FileFault, Header, IDENTIFIER_LEN, next_packet, read_header};
 use std::alloc::Global;
 
 /// Passes over the packet file that the input is, of at most `most` packets, up to 16,777,216.
@@ -21,7 +25,8 @@ use std::alloc::Global;
 /// text of the header, and then that of each packet, is put together in memory and handed over as
 /// one piece. It is whole in the output before a byte behind it is asked for: more can't be staged,
 /// since an output that fails has to find the input just behind the packet whose text isn't whole.
-/// So a packet costs one read, one write where it is kept, and one draw at most.
+/// So a packet costs one read, or in version 2 two, one write where it is kept, and one draw at
+/// most.
 ///
 /// `Ok` comes at the end of the input alone. What stands after each refusal is said there.
 pub fn pass<S: Source, K: Sink>(
@@ -45,7 +50,7 @@ pub fn pass<S: Source, K: Sink>(
         (stream (K.held output.new) (K.faults output.new))) }
 {
     let header = read_header(input)?;
-    let mut writer = PassWriter::new(alloc, pass)?;
+    let mut writer = PassWriter::new(alloc, pass, &header)?;
     let mut piece = vec![in alloc; 0u8; IDENTIFIER_LEN + header.symbol_len() as usize]?;
     put_head(&mut writer, output, &header)?;
     let packets = pass_packets(&mut writer, most as u64, &header, &mut piece, input, output)?;
@@ -64,7 +69,7 @@ fn pass_packets<S: Source, K: Sink>(
     input: &mut S,
     output: &mut K,
 ) -> Result<u64, PassRefusal>
-    requires ready { HasWritten writer.old 0 }
+    requires ready { HasWritten header.now writer.old 0 }
     requires most { most ≤ 16777216 }
     requires piece { length piece.old ≡ 4 + header.now.oti.symbol }
     ensures whole { IfOk result (λ count. (packets : List Packet)
@@ -74,7 +79,7 @@ fn pass_packets<S: Source, K: Sink>(
         (stream (K.held output.old) (K.faults output.old))
         (stream (K.held output.new) (K.faults output.new)) packets End
         × (length packets ≡ count)) }
-    ensures written { IfOk result (λ count. HasWritten writer.new count) }
+    ensures written { IfOk result (λ count. HasWritten header.now writer.new count) }
     ensures pass { writer.new.pass ≡ writer.old.pass }
     ensures ends { IfErr result (EndsEarly writer.old.pass most header.now
         (stream (S.left input.old) (S.faults input.old))
@@ -101,7 +106,7 @@ fn pass_packet<S: Source, K: Sink>(
     input: &mut S,
     output: &mut K,
 ) -> Result<bool, PassRefusal>
-    requires ready { HasWritten writer.old index }
+    requires ready { HasWritten header.now writer.old index }
     requires index { index ≤ most }
     requires most { most ≤ 16777216 }
     requires piece { length piece.old ≡ 4 + header.now.oti.symbol }
@@ -111,7 +116,7 @@ fn pass_packet<S: Source, K: Sink>(
         (stream (S.left input.new) (S.faults input.new))
         (stream (K.held output.old) (K.faults output.old))
         (stream (K.held output.new) (K.faults output.new)) p }
-    ensures ready { result ≡ Ok true → HasWritten writer.new (index + 1) }
+    ensures ready { result ≡ Ok true → HasWritten header.now writer.new (index + 1) }
     ensures end { result ≡ Ok false → StopsBefore header.now most index
         (stream (S.left input.old) (S.faults input.old))
         (stream (S.left input.new) (S.faults input.new)) End
@@ -129,6 +134,40 @@ fn pass_packet<S: Source, K: Sink>(
     let Some(id) = next_packet(input, header, index, most, piece)? else {
         return Ok(false);
     };
-    put_packet(writer, output, index, id, piece)?;
+    let symbol = &piece[IDENTIFIER_LEN..];
+    check_fit(writer.pass, header, index, id, symbol)?;
+    put_packet(writer, output, header, index, id, symbol)?;
     Ok(true)
+}
+
+// Whether a packet can be passed on.
+fn check_fit(
+    pass: Pass,
+    header: &Header,
+    index: u64,
+    id: PacketId,
+    symbol: &[u8],
+) -> Result<(), FileFault>
+    requires { IsPacketOf header.now (id, symbol.now) }
+    ensures fit { OnOk result (IsFitFor pass header.now (id, symbol.now)) }
+    ensures unfit { OnErr result (¬ IsFitFor pass header.now (id, symbol.now)) }
+    ensures fault { IfErr result (λ fault. fault ≡ FileFault.BadPadding index) }
+{
+    match pass {
+        Pass::Lose { .. } | Pass::Show => Ok(()),
+        Pass::Upgrade => check_padding(header, index, id, symbol),
+    }
+}
+
+// Whether the padding of a packet is zero.
+fn check_padding(header: &Header, index: u64, id: PacketId, symbol: &[u8]) -> Result<(), FileFault>
+    requires { IsPacketOf header.now (id, symbol.now) }
+    ensures fit { OnOk result (HasZeroPadding header.now (id, symbol.now)) }
+    ensures unfit { OnErr result (¬ HasZeroPadding header.now (id, symbol.now)) }
+    ensures fault { IfErr result (λ fault. fault ≡ FileFault.BadPadding index) }
+{
+    if header.padding_is_zero(id, symbol) {
+        return Ok(());
+    }
+    Err(FileFault::BadPadding { index })
 }

@@ -5,6 +5,7 @@ use Rattle.packet_file.specs.declared.fault.FileFault.TheVariants.{ShortHeader, 
 use Rattle.packet_file.specs.declared.fault.FileFault.TheVariants.{BadVersion, BadCodec}
 use Rattle.packet_file.specs.declared.fault.FileFault.TheVariants.{BadReserved, Field, ShortPacket}
 use Rattle.packet_file.specs.declared.fault.FileFault.TheVariants.{NoSuchBlock, NoSuchSymbol}
+use Rattle.packet_file.specs.declared.fault.FileFault.TheVariants.{BadLength, BadPadding}
 use Rattle.packet_file.specs.declared.fault.FileFault.TheVariants.{TooLarge, TooManyBlocks}
 use Rattle.packet_file.specs.declared.fault.FileFault.TheVariants.{TooManyPackets, ReadFault}
 use Rattle.tool_base.specs.declared.status.Status.{Status}
@@ -25,6 +26,8 @@ fault_refused (Field fault) = tt
 fault_refused (ShortPacket index have) = tt
 fault_refused (NoSuchBlock index sbn) = tt
 fault_refused (NoSuchSymbol index esi) = tt
+fault_refused (BadLength index len) = tt
+fault_refused (BadPadding index) = tt
 fault_refused (TooLarge limit) = tt
 fault_refused TooManyBlocks = tt
 fault_refused TooManyPackets = tt
@@ -40,6 +43,8 @@ fault_is_no_want (Field fault) is = cc
 fault_is_no_want (ShortPacket index have) is = cc
 fault_is_no_want (NoSuchBlock index sbn) is = cc
 fault_is_no_want (NoSuchSymbol index esi) is = cc
+fault_is_no_want (BadLength index len) is = cc
+fault_is_no_want (BadPadding index) is = cc
 fault_is_no_want (TooLarge limit) is = cc
 fault_is_no_want TooManyBlocks is = cc
 fault_is_no_want TooManyPackets is = cc

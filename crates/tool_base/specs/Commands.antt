@@ -5,7 +5,8 @@ use Rattle.std.specs.Str.{bytes_eq}
 use Rattle.tool_base.specs.Items.{Text}
 use Rattle.tool_base.specs.Options.{CommandOption, Given, options_given, takes_number, takes_range}
 use Rattle.tool_base.specs.Table.{block_option, codec_option, draws_option, early_option, k_option}
-use Rattle.tool_base.specs.Table.{frame_symbol_option, loss_option, max_n_option, n1_option, n_option}
+use Rattle.tool_base.specs.Table.{format_option, frame_symbol_option, loss_option, max_n_option}
+use Rattle.tool_base.specs.Table.{n1_option, n_option}
 use Rattle.tool_base.specs.Table.{order_option, packets_option, perf_symbol_option, run_seed_option}
 use Rattle.tool_base.specs.Table.{runs_option, seed_option, symbol_option, width_option}
 use Rattle.tool_base.specs.Given.{is_random, is_yes, loss_given, number_given, number_or, shape_of}
@@ -26,6 +27,7 @@ encode_options =
     ∷ takes_number block_option
     ∷ takes_range max_n_option
     ∷ takes_range draws_option
+    ∷ takes_number format_option
     ∷ []
 
 -- the `encode` that is given; none where the codec excludes an option, or the number of encoding
@@ -35,7 +37,8 @@ encode_of given =
     let block = number_or block_option given in
     option_and_then
     (λ shape. option_map
-    (λ max_n. command.Encode shape (number_or symbol_option given) block max_n)
+    (λ max_n. command.Encode shape (number_or symbol_option given) block max_n
+    (number_or format_option given))
     (symbols_given max_n_option shape block given)) (shape_of max_n_option given)
 
 -- the options of `decode`
@@ -65,6 +68,14 @@ show_options = takes_number packets_option ∷ []
 -- the `show` that is given
 abbrev pub show_of : Given → Command
 show_of given = command.Show (number_or packets_option given)
+
+-- the options of `upgrade`
+abbrev pub upgrade_options : List CommandOption
+upgrade_options = takes_number packets_option ∷ []
+
+-- the `upgrade` that is given
+abbrev pub upgrade_of : Given → Command
+upgrade_of given = command.Upgrade (number_or packets_option given)
 
 -- the options of `perf`
 abbrev pub perf_options : List CommandOption
@@ -113,6 +124,7 @@ command_word_of text =
     else if bytes_eq text (codes "decode") then Some word.Decode
     else if bytes_eq text (codes "lose") then Some word.Lose
     else if bytes_eq text (codes "show") then Some word.Show
+    else if bytes_eq text (codes "upgrade") then Some word.Upgrade
     else if bytes_eq text (codes "perf") then Some word.Perf
     else if bytes_eq text (codes "frame") then Some word.Frame
     else if bytes_eq text (codes "unframe") then Some word.Unframe
@@ -124,6 +136,7 @@ command_after words word.Encode = option_and_then encode_of (options_given encod
 command_after words word.Decode = option_map decode_of (options_given decode_options words)
 command_after words word.Lose = option_map lose_of (options_given lose_options words)
 command_after words word.Show = option_map show_of (options_given show_options words)
+command_after words word.Upgrade = option_map upgrade_of (options_given upgrade_options words)
 command_after words word.Perf = option_and_then perf_of (options_given perf_options words)
 command_after words word.Frame = option_map frame_of (options_given frame_options words)
 command_after words word.Unframe = option_map unframe_of (options_given frame_options words)

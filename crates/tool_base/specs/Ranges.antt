@@ -18,7 +18,7 @@ pub record IsShapeInRange (shape : Shape) : Type 0 where
   pub grid_n1 : is_grid shape.codec ≡ true → shape.n1 ≡ 3
 
 -- the options of `encode` are in their ranges, and a grid has the size that follows from the others
-pub record IsEncodeInRange (shape : Shape) (symbol block max_n : ℕ) : Type 0 where
+pub record IsEncodeInRange (shape : Shape) (symbol block max_n format : ℕ) : Type 0 where
   pub shape_in_range : IsShapeInRange shape
   pub symbol_some : 1 ≤ symbol
   pub symbol_most : symbol ≤ 65535
@@ -26,6 +26,8 @@ pub record IsEncodeInRange (shape : Shape) (symbol block max_n : ℕ) : Type 0 w
   pub block_most : block ≤ max_n
   pub max_n_most : max_n ≤ 65536
   pub grid_fits : IfSome (grid_size shape.codec block shape.width) (λ size. max_n ≡ size)
+  pub format_some : 1 ≤ format
+  pub format_most : format ≤ 2
 
 -- the options of `lose` are in their ranges
 pub record IsLoseInRange (kind : LossKind) (seed packets : ℕ) : Type 0 where
@@ -57,10 +59,12 @@ pub record IsFrameInRange (symbol : ℕ) : Type 0 where
 
 -- the options of a command are in their ranges
 abbrev pub IsInRange : Command → Type 0
-IsInRange (command.Encode shape symbol block max_n) = IsEncodeInRange shape symbol block max_n
+IsInRange (command.Encode shape symbol block max_n format) =
+    IsEncodeInRange shape symbol block max_n format
 IsInRange (command.Decode draws early packets) = packets ≤ 16777216
 IsInRange (command.Lose kind seed packets) = IsLoseInRange kind seed packets
 IsInRange (command.Show packets) = packets ≤ 16777216
+IsInRange (command.Upgrade packets) = packets ≤ 16777216
 IsInRange (command.Perf shape symbol k n kind random runs run_seed) =
     IsPerfInRange shape symbol k n kind runs run_seed
 IsInRange (command.Frame symbol) = IsFrameInRange symbol

@@ -3,7 +3,8 @@ use Rattle.std.specs.Fmt.{decimal}
 use Rattle.std.specs.Prelude.{List, codes, ℕ, ◌++◌}
 use Rattle.oti_fields.specs.Faults.{fault_number}
 use Rattle.packet_file.specs.declared.fault.FileFault.{FileFault}
-use Rattle.packet_file.specs.declared.fault.FileFault.TheVariants.{BadCodec, BadMagic, BadReserved}
+use Rattle.packet_file.specs.declared.fault.FileFault.TheVariants.{BadCodec, BadLength, BadMagic}
+use Rattle.packet_file.specs.declared.fault.FileFault.TheVariants.{BadPadding, BadReserved}
 use Rattle.packet_file.specs.declared.fault.FileFault.TheVariants.{BadVersion, Field, NoSuchBlock}
 use Rattle.packet_file.specs.declared.fault.FileFault.TheVariants.{NoSuchSymbol, ReadFault}
 use Rattle.packet_file.specs.declared.fault.FileFault.TheVariants.{ShortHeader, ShortPacket}
@@ -40,6 +41,10 @@ numbered text number = text ++ decimal number ++ codes "\n"
 abbrev pub packet_text : ℕ → List ℕ → ℕ → List ℕ
 packet_text index what number = codes "fault: packet " ++ decimal index ++ numbered what number
 
+-- what is reported of packet number `index`, whose padding isn't zero
+abbrev pub padding_text : ℕ → List ℕ
+padding_text index = codes "fault: packet " ++ decimal index ++ codes " padding\n"
+
 -- what is reported of a fault of a file
 abbrev pub file_fault_text : FileFault → List ℕ
 file_fault_text (ShortHeader have) = numbered (codes "fault: header short ") have
@@ -51,6 +56,8 @@ file_fault_text (Field fault) = numbered (codes "fault: header field ") (fault_n
 file_fault_text (ShortPacket index have) = packet_text index (codes " short ") have
 file_fault_text (NoSuchBlock index sbn) = packet_text index (codes " block ") sbn
 file_fault_text (NoSuchSymbol index esi) = packet_text index (codes " symbol ") esi
+file_fault_text (BadLength index len) = packet_text index (codes " length ") len
+file_fault_text (BadPadding index) = padding_text index
 file_fault_text (TooLarge limit) = limit_text limit
 file_fault_text TooManyBlocks = codes "fault: limit blocks\n"
 file_fault_text TooManyPackets = codes "fault: limit packets\n"

@@ -57,6 +57,10 @@ n_option = numbers (codes "n") 1 65536
 abbrev pub early_option : CommandOption
 early_option = takes (codes "early") YesOrNo
 
+-- the version of the packet file that `encode` makes
+abbrev pub format_option : NumberOption
+format_option = numbers_or (codes "format") 1 2 1
+
 -- how many packets may be read
 abbrev pub packets_option : NumberOption
 packets_option = numbers_or (codes "packets") 0 16777216 16777216

@@ -5,15 +5,15 @@ ghost use Rattle.tool_base.specs.Commands.{decode_of, decode_options, encode_of}
 ghost use Rattle.tool_base.specs.Ranges.{IsInRange};
 ghost use Rattle.tool_base.specs.Commands.{encode_options, lose_of, lose_options, perf_of};
 ghost use Rattle.tool_base.specs.Commands.{frame_of, frame_options, perf_options, show_of};
-ghost use Rattle.tool_base.specs.Commands.{show_options, unframe_of};
+ghost use Rattle.tool_base.specs.Commands.{show_options, unframe_of, upgrade_of, upgrade_options};
 
 use crate::given::{
     is_random, is_yes, loss_given, number_given, number_or, shape_given, symbols_given,
 };
 use crate::options::OptionRow;
 use crate::table::{
-    BLOCK, CODEC, DRAWS, EARLY, FRAME_SYMBOL, K, LOSS, MAX_N, N, N1, ORDER, PACKETS, PERF_SYMBOL,
-    RUN_SEED, RUNS, SEED, SYMBOL, WIDTH,
+    BLOCK, CODEC, DRAWS, EARLY, FORMAT, FRAME_SYMBOL, K, LOSS, MAX_N, N, N1, ORDER, PACKETS,
+    PERF_SYMBOL, RUN_SEED, RUNS, SEED, SYMBOL, WIDTH,
 };
 use clap::ArgMatches;
 use loss_patterns::LossKind;
@@ -48,6 +48,8 @@ pub enum Command {
         block: u32,
         /// The greatest number of encoding symbols of a block, from `block` to 65,536.
         max_n: u32,
+        /// The version of the packet file: 1 or 2.
+        format: u8,
     },
     /// Makes the object of a packet file.
     Decode {
@@ -69,6 +71,11 @@ pub enum Command {
     },
     /// Writes a line for the header of a packet file, and one for each packet.
     Show {
+        /// How many packets may be read, at most 16,777,216.
+        packets: u32,
+    },
+    /// Writes a packet file in version 2.
+    Upgrade {
         /// How many packets may be read, at most 16,777,216.
         packets: u32,
     },
@@ -104,7 +111,7 @@ pub enum Command {
 }
 
 // The options of `encode`.
-pub fn encode_options() -> [OptionRow; 8]
+pub fn encode_options() -> [OptionRow; 9]
     ensures { map listed result ≡ encode_options }
 {
     [
@@ -116,6 +123,7 @@ pub fn encode_options() -> [OptionRow; 8]
         BLOCK.row(),
         MAX_N.row(),
         DRAWS.row(),
+        FORMAT.row(),
     ]
 }
 
@@ -133,6 +141,7 @@ pub fn read_encode(given: &ArgMatches) -> Option<Command>
         symbol: number_or(given, &SYMBOL),
         block,
         max_n,
+        format: number_or(given, &FORMAT) as u8,
     })
 }
 
@@ -187,6 +196,23 @@ pub fn read_show(given: &ArgMatches) -> Command
     ensures in_range { IsInRange result }
 {
     Command::Show {
+        packets: number_or(given, &PACKETS),
+    }
+}
+
+// The options of `upgrade`.
+pub fn upgrade_options() -> [OptionRow; 1]
+    ensures { map listed result ≡ upgrade_options }
+{
+    [PACKETS.row()]
+}
+
+// The `upgrade` that is given.
+pub fn read_upgrade(given: &ArgMatches) -> Command
+    ensures value { result ≡ upgrade_of (given_of given.now) }
+    ensures in_range { IsInRange result }
+{
+    Command::Upgrade {
         packets: number_or(given, &PACKETS),
     }
 }

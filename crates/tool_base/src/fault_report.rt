@@ -4,7 +4,7 @@ ghost use Rattle.std.specs.Io.KnownBytes.{Appends};
 ghost use Rattle.fec_base.specs.Bytes.{AppendsFront};
 ghost use Rattle.fec_base.specs.Causes.{HasCause};
 ghost use Rattle.fec_base.specs.Outside.{stream};
-ghost use Rattle.tool_base.specs.Refusals.{file_fault_text, limit_text, packet_text};
+ghost use Rattle.tool_base.specs.Refusals.{file_fault_text, limit_text, packet_text, padding_text};
 ghost use Rattle.tool_base.specs.Refusals.{refusal_status, refusal_text};
 ghost use Rattle.tool_base.specs.Written.{IsTold};
 
@@ -71,6 +71,10 @@ fn put_fault<R: Sink>(report: &mut R, fault: FileFault) -> Result<(), WriteFaile
         FileFault::NoSuchSymbol { index, esi } => {
             put_packet_fault(report, index, " symbol ", esi as u64)
         }
+        FileFault::BadLength { index, length } => {
+            put_packet_fault(report, index, " length ", length as u64)
+        }
+        FileFault::BadPadding { index } => put_padding_fault(report, index),
         FileFault::TooLarge(limit) => put_text(report, limit_text(limit)),
         FileFault::TooManyBlocks => put_text(report, "fault: limit blocks\n"),
         FileFault::TooManyPackets => put_text(report, "fault: limit packets\n"),
@@ -106,5 +110,19 @@ fn put_packet_fault<R: Sink>(
     put_text(report, "fault: packet ")?;
     put_number(report, index)?;
     put_numbered(report, what, number)?;
+    Ok(())
+}
+
+// Reports that the padding of packet number `index` isn't zero.
+fn put_padding_fault<R: Sink>(report: &mut R, index: u64) -> Result<(), WriteFailed>
+    ensures written { OnOk result
+        (Appends (R.held report.old) (R.held report.new) (padding_text index)) }
+    ensures cut { OnErr result
+        (AppendsFront (R.held report.old) (R.held report.new) (padding_text index)) }
+    ensures cause { HasCause (R.faults report.old) (R.faults report.new) result }
+{
+    put_text(report, "fault: packet ")?;
+    put_number(report, index)?;
+    put_text(report, " padding\n")?;
     Ok(())
 }

@@ -114,6 +114,16 @@ pub const EARLY: OptionRow = OptionRow {
     values: ValueKind::YesOrNo,
 };
 
+// The version of the packet file that `encode` makes.
+pub const FORMAT: NumberRow = NumberRow {
+    range: RangeRow {
+        name: "format",
+        low: 1,
+        high: 2,
+    },
+    default: 1,
+};
+
 // How many packets may be read.
 pub const PACKETS: NumberRow = NumberRow {
     range: RangeRow {

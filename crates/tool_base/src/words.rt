@@ -6,7 +6,8 @@ ghost use Rattle.tool_base.specs.Ranges.{IsInRange};
 use crate::Command;
 use crate::command::{
     decode_options, encode_options, frame_options, lose_options, perf_options, read_decode,
-    read_encode, read_frame, read_lose, read_perf, read_show, read_unframe, show_options,
+    read_encode, read_frame, read_lose, read_perf, read_show, read_unframe, read_upgrade,
+    show_options, upgrade_options,
 };
 use crate::options::read_options;
 use fec_base::{NoMemory, Words};
@@ -55,6 +56,7 @@ enum CommandWord {
     Decode,
     Lose,
     Show,
+    Upgrade,
     Perf,
     Frame,
     Unframe,
@@ -75,6 +77,9 @@ fn read_command_word(word: &str) -> Option<CommandWord>
     }
     if word == "show" {
         return Some(CommandWord::Show);
+    }
+    if word == "upgrade" {
+        return Some(CommandWord::Upgrade);
     }
     if word == "perf" {
         return Some(CommandWord::Perf);
@@ -110,6 +115,10 @@ fn read_after(alloc: Global, word: CommandWord, words: &[&str]) -> Result<Option
         },
         CommandWord::Show => match read_options(alloc, &show_options(), words)? {
             Some(given) => Ok(Some(read_show(&given))),
+            None => Ok(None),
+        },
+        CommandWord::Upgrade => match read_options(alloc, &upgrade_options(), words)? {
+            Some(given) => Ok(Some(read_upgrade(&given))),
             None => Ok(None),
         },
         CommandWord::Perf => match read_options(alloc, &perf_options(), words)? {

@@ -1,4 +1,5 @@
 use Rattle.std.proofs.Common.{◌≡◌, ◌≤◌, ◌<◌, ◌*◌, length, slice_index, ap, sym, ◌∙◌, subst, arith}
+use Rattle.packet_file.specs.declared.version.Version.TheVariants.{One}
 use Rattle.packet_file.specs.Header.{HeaderFields, source_counts}
 use Rattle.packet_file.proofs.Sizes.{count_in_range, first_small}
 use Rattle.packet_file.proofs.Limits.{no_limit_passed, too_many_bytes, too_many_symbols}
@@ -7,7 +8,7 @@ use Rattle.packet_file.proofs.header.check_sizes.Goals as goal
 pub count_symbols-greatest-requires-clause-within :
     goal.count_symbols-greatest-requires-clause-within
 count_symbols-greatest-requires-clause-within c =
-    let h : HeaderFields = record { codec = c.args.codec; oti = c.args.oti.now } in
+    let h : HeaderFields = record { version = One; codec = c.args.codec; oti = c.args.oti.now } in
     let inside : 0 < length (source_counts h) =
     omega (arith, c.if-count-eq0.false, c.count.ensures.value, ap length c.requires.plan) in
     let n_is : c.block_len.result ≡ slice_index (source_counts h) 0 = c.block_len.ensures

@@ -1,11 +1,12 @@
 use Rattle.std.proofs.Common.{◌≡◌, ◌≤◌, ◌<◌, length, slice_index, ap, sym, ◌∙◌, subst, arith}
+use Rattle.packet_file.specs.declared.version.Version.TheVariants.{One}
 use Rattle.packet_file.specs.Header.{HeaderFields, source_counts}
 use Rattle.packet_file.proofs.Sizes.{count_in_range}
 use Rattle.packet_file.proofs.header.sum_symbols.Goals as goal
 
 pub count_symbols-requires-clause-within : goal.count_symbols-requires-clause-within
 count_symbols-requires-clause-within c =
-    let h : HeaderFields = record { codec = c.args.codec; oti = c.args.oti.now } in
+    let h : HeaderFields = record { version = One; codec = c.args.codec; oti = c.args.oti.now } in
     let i = c.loop-i.i in
     let inside : i < length (source_counts h) =
     omega (arith, c.loop-i-test.true, c.count-i-end.ensures.value, ap length c.requires.plan) in

@@ -125,7 +125,7 @@ returns-clause-whole g c =
     let taken = c.in_ok-header.ensures.bytes in
     let later = c.read_header.ensures.later in
     let sink_later = c.put_head.ensures.cause.later in (
-      head_of pass h ++ texts pass packets,
+      head_of pass h ++ texts pass h packets,
       written_behind pass most h input mid now output out_mid out_now header taken written later
           sink_later packets End s,
       record {
@@ -133,6 +133,7 @@ returns-clause-whole g c =
         packets = packets;
         reads = read_behind pass most h input mid now output out_mid out_now header taken written
             later sink_later packets End s;
+        fit = s.fit;
         text = refl;
         counted = sym counted;
         kept = kept_by pass w.pass w.thinning.kind w.thinning.seed w.thinning.done count

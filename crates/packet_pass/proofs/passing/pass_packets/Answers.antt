@@ -1,5 +1,5 @@
-use Rattle.std.proofs.Common.{rules, ◌≡◌, ℕ, ◌∷◌, ◌++◌, [], Result, Ok, Err, IfErr, refl, ap, sym, ◌∙◌}
-use Rattle.std.proofs.Common.{subst, arith, length-append}
+use Rattle.std.proofs.Common.{rules, ◌≡◌, ℕ, ◌∷◌, ◌++◌, [], Result, Ok, Err, IfErr, ap, sym, ◌∙◌}
+use Rattle.std.proofs.Common.{refl, subst, arith, length-append}
 use Rattle.fec_base.specs.Outside.{stream}
 use Rattle.packet_pass.specs.Writing.{EndsAtPacket, EndsEarly, PassesOne}
 use Rattle.packet_pass.specs.declared.kind.Pass.{Pass}
@@ -83,3 +83,14 @@ loop-index-preserved g c =
       later = omega (arith, so_far.later, c.pass_packet.ensures.later);
       sink_later = omega (arith, so_far.sink_later, c.pass_packet.ensures.sink_later);
     }
+
+pub loop-index-init : goal.loop-index-init
+loop-index-init g c = record {
+  long = c.requires.piece;
+  pass = refl;
+  ready = c.requires.ready;
+  came = ([], passes_none c.args.writer.now.pass c.args.most c.args.header.now _ _, refl);
+  few = omega arith;
+  later = omega arith;
+  sink_later = omega arith;
+}

@@ -9,7 +9,7 @@ abbrev pub invariant-loop-index : goal.invariant-loop-index
 invariant-loop-index g l = record {
   long : length l.piece ≡ 4 + l.header.oti.symbol;
   pass : l.writer.pass ≡ l.initial.writer.pass;
-  ready : HasWritten l.writer l.index;
+  ready : HasWritten l.header l.writer l.index;
   came : (packets : List Packet) × PassesPackets l.initial.writer.pass l.most l.header
       (stream (g.S.Source.left l.initial.input) (g.S.Source.faults l.initial.input))
       (stream (g.S.Source.left l.input) (g.S.Source.faults l.input))

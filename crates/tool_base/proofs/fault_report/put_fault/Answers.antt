@@ -46,3 +46,17 @@ returns-in-Field-clause-written g c = rw (c.in-Field.is, ← c.number.ensures)
 pub returns-in-Field-clause-cut : goal.returns-in-Field-clause-cut
 returns-in-Field-clause-cut g c = rw (c.in-Field.is, ← c.number.ensures)
     c.put_numbered-in-Field.ensures.cut
+
+pub returns-in-BadLength-clause-written : goal.returns-in-BadLength-clause-written
+returns-in-BadLength-clause-written g c = rw c.in-BadLength.is
+    c.put_packet_fault-in-BadLength.ensures.written
+
+pub returns-in-BadLength-clause-cut : goal.returns-in-BadLength-clause-cut
+returns-in-BadLength-clause-cut g c = rw c.in-BadLength.is
+    c.put_packet_fault-in-BadLength.ensures.cut
+
+pub returns-in-BadPadding-clause-written : goal.returns-in-BadPadding-clause-written
+returns-in-BadPadding-clause-written g c = rw c.in-BadPadding.is c.put_padding_fault.ensures.written
+
+pub returns-in-BadPadding-clause-cut : goal.returns-in-BadPadding-clause-cut
+returns-in-BadPadding-clause-cut g c = rw c.in-BadPadding.is c.put_padding_fault.ensures.cut
