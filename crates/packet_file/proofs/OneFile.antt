@@ -1,6 +1,6 @@
 -- Bytes have one reading as packets and as packet files.
 use Rattle.std.proofs.Common.{◌≡◌, ℕ, ◌-◌, ◌<◌, List, [], ◌∷◌, ◌++◌, length, take, drop, get_or}
-use Rattle.std.proofs.Common.{All}
+use Rattle.std.proofs.Common.{All, ◌==◌, if◌then◌else◌}
 use Rattle.std.proofs.Common.{refl, sym, ap, ap₂, ◌∙◌, subst, arith, append_assoc}
 use Rattle.std.proofs.Common.{take-append-drop, length-append, length-take-le, length-drop}
 use Rattle.std.proofs.lemmas.List.{append-nil, drop_at, take_all, take_at}
@@ -10,6 +10,7 @@ use Rattle.oti_fields.specs.Fields.{codec_number, id_bytes}
 use Rattle.oti_fields.specs.Laws.{FieldsAreOne, IdIsOne, IdIsSpelled}
 use Rattle.oti_fields.specs.declared.codec.Codec.{Codec}
 use Rattle.oti_fields.specs.declared.codec.Codec.TheVariants.{Staircase, Triangle, Parity2d}
+use Rattle.oti_fields.specs.declared.codec.Codec.TheVariants.{Corner2d}
 use Rattle.oti_fields.specs.declared.oti.Oti.{Oti}
 use Rattle.oti_fields.specs.declared.identifier.PacketId.{PacketId}
 use Rattle.packet_file.specs.Header.{HeaderFields, IsHeader, header_bytes, version_number}
@@ -67,16 +68,21 @@ version_one One Two same = absurd (omega (arith, same))
 version_one Two One same = absurd (omega (arith, same))
 version_one Two Two same = refl
 
+abbrev codec_at : ℕ → Codec
+codec_at number =
+    if number == 3 then Staircase
+    else if number == 4 then Triangle
+    else if number == 200 then Parity2d
+    else Corner2d
+
+codec_back : (codec : Codec) → codec_at (codec_number codec) ≡ codec
+codec_back Staircase = refl
+codec_back Triangle = refl
+codec_back Parity2d = refl
+codec_back Corner2d = refl
+
 codec_one : (a b : Codec) → codec_number a ≡ codec_number b → a ≡ b
-codec_one Staircase Staircase same = refl
-codec_one Staircase Triangle same = absurd (omega (arith, same))
-codec_one Staircase Parity2d same = absurd (omega (arith, same))
-codec_one Triangle Staircase same = absurd (omega (arith, same))
-codec_one Triangle Triangle same = refl
-codec_one Triangle Parity2d same = absurd (omega (arith, same))
-codec_one Parity2d Staircase same = absurd (omega (arith, same))
-codec_one Parity2d Triangle same = absurd (omega (arith, same))
-codec_one Parity2d Parity2d same = refl
+codec_one a b same = sym (codec_back a) ∙ ap codec_at same ∙ codec_back b
 
 pub header_one : FieldsAreOne → HeaderIsOne
 header_one fields_one h other bits other_bits same =

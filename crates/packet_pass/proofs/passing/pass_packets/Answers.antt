@@ -33,21 +33,6 @@ returns-in_err-pass_packet-clause-ends g c =
     subst (λ (r : Result ℕ PassRefusal). IfErr r (EndsEarly pass c.args.most h input now output
     out_now)) (sym same) ends
 
-pub loop-index-init : goal.loop-index-init
-loop-index-init g c =
-    let input = stream (g.S.Source.left c.args.input.now) (g.S.Source.faults c.args.input.now) in
-    let output = stream (g.K.Sink.held c.args.output.now) (g.K.Sink.faults c.args.output.now) in
-    record {
-      long = c.requires.piece;
-      pass = refl;
-      ready = c.requires.ready;
-      came = ([], passes_none c.args.writer.now.pass c.args.most c.args.header.now input output,
-          refl);
-      few = omega arith;
-      later = omega arith;
-      sink_later = omega arith;
-    }
-
 pub loop-index-preserved : goal.loop-index-preserved
 loop-index-preserved g c =
     let left = g.S.Source.left in
