@@ -165,6 +165,10 @@ def worked_runs():
     corner = ["--codec=2d-corner", *grid[1:]]
     square = answer(Run("", ["encode", *grid], five)).output
     cornered = answer(Run("", ["encode", *corner], five)).output
+    one = ["--codec=2d", "--width=2", "--block=3", "--symbol=2"]
+    two = [*one, "--format=2"]
+    padded = answer(Run("", ["encode", *one], five)).output
+    short = answer(Run("", ["encode", *two], five)).output
     small = ["perf", "--k=3", "--n=7", "--symbol=1", "--order=sent"]
     return [
         Run("encode, three of seven", ["encode", *shape], three),
@@ -175,6 +179,10 @@ def worked_runs():
         Run("decode, none of seven", ["decode"], file[:26]),
         Run("encode, a grid of ten", ["encode", *grid], five),
         Run("decode, six of a grid of ten", ["decode"], chosen(square, [2, 5, 6, 7, 8, 9], 5)),
+        Run("encode, version 2", ["encode", *two], five),
+        Run("upgrade", ["upgrade"], padded),
+        Run("upgrade, padding", ["upgrade"], padded[:26] + bytes.fromhex("00 00 00 02 10 01")),
+        Run("decode, a wrong length", ["decode"], short[:26] + bytes.fromhex("00 00 00 02 00 02 10 00")),
         Run("encode, a grid with a corner", ["encode", *corner], five),
         Run("decode, eight of a grid with a corner", ["decode"], chosen(cornered, [1, 2, 3, 4, 6, 8, 9, 10], 5)),
         Run("perf, seven of seven", small, b""),
@@ -221,6 +229,7 @@ def all_runs():
     many = encoded(small[:4000], ["--symbol=2", "--block=2000", "--max-n=6000"])
     half = answer(Run("", ["lose", "--loss=even:400"], many)).output
     changed = file[-184:-1] + bytes([file[-1] ^ 1])
+    second = encoded(small, [*shape, "--format=2"])
     return [
         Run("usage", ["encode", "--width=3"], small),
         Run("encode", ["encode", *shape], small),
@@ -243,5 +252,14 @@ def all_runs():
         Run("lose, a cut packet", ["lose"], file[:-1]),
         Run("show", ["show"], file),
         Run("show, too many packets", ["show", "--packets=9"], file),
+        Run("encode, version 2", ["encode", "--format=2", *shape], small),
+        Run("decode, version 2", ["decode"], second),
+        Run("decode, a cut payload", ["decode"], second[:-1]),
+        Run("lose, version 2", ["lose", "--loss=even:300"], second),
+        Run("show, version 2", ["show"], second),
+        Run("upgrade", ["upgrade"], file),
+        Run("upgrade, much", ["upgrade"], wide),
+        Run("upgrade, version 2", ["upgrade"], second),
+        Run("upgrade, a cut packet", ["upgrade"], file[:-1]),
         Run("perf", ["perf", "--k=200", "--symbol=1", "--loss=even:250", "--runs=6"], b""),
     ] + frame_runs() + worked_runs()

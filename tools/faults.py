@@ -43,7 +43,7 @@ class Case(NamedTuple):
 def read_failed(run, taken):
     """The input fails after so many bytes: what the packets that came whole have brought by then stays."""
     came = answer(Run(run.name, run.words, run.data[:taken]))
-    output = came.output if run.words[0] in ("lose", "show", "frame", "unframe") else b""
+    output = came.output if run.words[0] in ("lose", "show", "upgrade", "frame", "unframe") else b""
     return Answer(3, output, told_lines(came.report) + READ)
 
 

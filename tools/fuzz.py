@@ -72,7 +72,10 @@ def random_words(chance):
         if chance.random() < 0.1:
             limit = chance.randint(0, 200)
             words.append(f"--draws={limit}")
-    return words, limit, lambda size: Header(codec, size, symbol, n1 - 3, 1, block, max_n, seed)
+    version = chance.choice([1, 1, 2])
+    if version == 2 or chance.random() < 0.1:
+        words.append(f"--format={version}")
+    return words, limit, lambda size: Header(codec, size, symbol, n1 - 3, 1, block, max_n, seed, version)
 
 
 def random_loss(chance):
@@ -114,9 +117,9 @@ def random_perf(chance):
     return words, given
 
 
-def damaged(chance, file, size):
-    header, body = bytearray(file[:26]), file[26:]
-    packets = [body[at : at + size] for at in range(0, len(body), size)]
+def damaged(chance, file):
+    header = bytearray(file[:26])
+    packets = [piece for _, _, _, piece, _ in reading.packets(file, reading.read_header(file), 16777216)]
     share = chance.choice([0, 0.1, 0.3, 0.5, 0.9])
     packets = [packet for packet in packets if chance.random() >= share]
     if packets and chance.random() < 0.5:
@@ -218,9 +221,9 @@ def symbols_of(file):
         return 0
 
 
-def check_file(chance, file, symbol, seen):
+def check_file(chance, file, seen):
     """What comes out of a packet file that met with something on the way."""
-    file = damaged(chance, file, 4 + symbol)
+    file = damaged(chance, file)
     options, early, most, limit = ["decode"], chance.random() < 0.3, 16777216, None
     if early:
         options.append("--early=yes")
@@ -237,6 +240,16 @@ def check_file(chance, file, symbol, seen):
     options = [f"--loss={loss}", f"--seed={start}", f"--packets={most}"]
     check(["lose", *options], file, expected(reading.lose, file, loss, start, most), seen)
     check(["show", f"--packets={most}"], file, expected(reading.show, file, most), seen)
+    check(["upgrade", f"--packets={most}"], file, expected(reading.upgrade, file, most), seen)
+    check_upgraded(file, seen)
+
+
+def check_upgraded(file, seen):
+    """An upgraded file is decoded as the file itself."""
+    status, upgraded, _ = check(["upgrade"], file, expected(reading.upgrade, file, 16777216), seen)
+    if not status and symbols_of(file) <= MOST_DECODED:
+        wanted = expected(reading.decode, file, None, False, 16777216)
+        check(["decode"], upgraded, wanted, seen)
 
 
 def random_stream(chance, size):
@@ -300,7 +313,7 @@ def check_cases(seed, first, count):
             ["encode", *words], data, expected(reading.encode, header, data, limit), seen
         )
         if not status:
-            check_file(chance, file, header.symbol, seen)
+            check_file(chance, file, seen)
         check_datagrams(chance, seen)
         words, given = random_perf(chance)
         check(["perf", *words], b"", expected(reading.perf, **given), seen)

@@ -98,8 +98,8 @@ def grid_size(codec, k, width):
 
 
 class Header:
-    def __init__(self, codec, length, symbol, n1m3, group, block, max_n, seed):
-        self.codec, self.length, self.symbol, self.n1 = codec, length, symbol, n1m3 + 3
+    def __init__(self, codec, length, symbol, n1m3, group, block, max_n, seed, version=1):
+        self.codec, self.length, self.symbol, self.n1, self.version = codec, length, symbol, n1m3 + 3, version
         self.n1m3, self.group, self.block, self.max_n, self.seed = n1m3, group, block, max_n, seed
 
     def name(self):
@@ -107,7 +107,7 @@ class Header:
 
     def spelled(self):
         return (
-            b"OFPK\x01" + bytes([self.codec, 0, 0]) + self.length.to_bytes(6, "big") + self.symbol.to_bytes(2, "big")
+            b"OFPK" + bytes([self.version, self.codec, 0, 0]) + self.length.to_bytes(6, "big") + self.symbol.to_bytes(2, "big")
             + bytes([self.n1m3 << 5 | self.group]) + (self.block << 20 | self.max_n).to_bytes(5, "big")
             + self.seed.to_bytes(4, "big")
         )
@@ -144,6 +144,20 @@ class Header:
         if sum(self.counts) * self.symbol > 536870912:
             raise Ends(7, "fault: limit bytes\n")
 
+    def true_len(self, block, position):
+        """How many bytes of a symbol are no padding."""
+        if block == len(self.sizes) - 1 and position == self.sizes[-1] - 1:
+            return self.length - self.symbol * (-(-self.length // self.symbol) - 1)
+        return self.symbol
+
+    def packet(self, block, position, symbol):
+        """A packet as the version spells it."""
+        identifier = (block << 20 | position).to_bytes(4, "big")
+        if self.version == 1:
+            return identifier + symbol
+        length = self.true_len(block, position)
+        return identifier + length.to_bytes(2, "big") + symbol[:length]
+
     def codes(self, limit):
         built, codes = {}, []
         for block, (k, n) in enumerate(zip(self.sizes, self.counts)):
@@ -161,7 +175,7 @@ def read_header(data):
         raise Ends(5, f"fault: header short {len(data)}\n")
     if data[:4] != b"OFPK":
         raise Ends(5, "fault: header magic\n")
-    if data[4] != 1:
+    if data[4] not in (1, 2):
         raise Ends(5, f"fault: header version {data[4]}\n")
     if data[5] not in NAMES:
         raise Ends(5, f"fault: header codec {data[5]}\n")
@@ -170,7 +184,7 @@ def read_header(data):
     wide = int.from_bytes(data[17:22], "big")
     header = Header(
         data[5], int.from_bytes(data[8:14], "big"), int.from_bytes(data[14:16], "big"), data[16] >> 5, data[16] & 31,
-        wide >> 20, wide & 0xFFFFF, int.from_bytes(data[22:26], "big"),
+        wide >> 20, wide & 0xFFFFF, int.from_bytes(data[22:26], "big"), data[4],
     )
     if fault := header.field_fault():
         raise Ends(5, f"fault: header field {fault}\n")
@@ -191,7 +205,7 @@ def encode(header, data, limit):
                 total = xor(total, word[column])
             word.append(total)
         for position, symbol in enumerate(word):
-            out.append((block << 20 | position).to_bytes(4, "big") + symbol)
+            out.append(header.packet(block, position, symbol))
         packets += len(word)
     return 0, b"".join(out), f"blocks {len(codes)}\npackets {packets}\n"
 
@@ -252,13 +266,13 @@ def outcome(rows, k, n, arrivals, size):
 
 
 def packets(data, header, most, over=lambda: False):
-    """Number, block, position and bytes of each packet behind the header, until it is over."""
-    length, at, count = 4 + header.symbol, 26, 0
+    """Number, block, position, bytes and symbol of each packet behind the header, until it is over."""
+    lead, at, count = 4 + header.symbol if header.version == 1 else 6, 26, 0
     while not over() and at < len(data):
-        piece = data[at : at + length]
+        piece = data[at : at + lead]
         if count == most:
             raise Ends(7, "fault: limit packets\n")
-        if len(piece) < length:
+        if len(piece) < lead:
             raise Ends(5, f"fault: packet {count} short {len(piece)}\n")
         identifier = int.from_bytes(piece[:4], "big")
         block, position = identifier >> 20, identifier & 0xFFFFF
@@ -266,8 +280,17 @@ def packets(data, header, most, over=lambda: False):
             raise Ends(5, f"fault: packet {count} block {block}\n")
         if position >= header.counts[block]:
             raise Ends(5, f"fault: packet {count} symbol {position}\n")
-        yield count, block, position, piece
-        at, count = at + length, count + 1
+        symbol = piece[4:]
+        if header.version == 2:
+            length = int.from_bytes(piece[4:], "big")
+            if length != header.true_len(block, position):
+                raise Ends(5, f"fault: packet {count} length {length}\n")
+            piece = data[at : at + 6 + length]
+            if len(piece) < 6 + length:
+                raise Ends(5, f"fault: packet {count} short {len(piece)}\n")
+            symbol = piece[6:].ljust(header.symbol, b"\0")
+        yield count, block, position, piece, symbol
+        at, count = at + len(piece), count + 1
 
 
 def decode(data, limit, early, most):
@@ -281,8 +304,8 @@ def decode(data, limit, early, most):
             for k, rows, came in zip(header.sizes, codes, arrivals)
         )
 
-    for _, block, position, piece in packets(data, header, most, whole):
-        arrivals[block].append((position, piece[4:]))
+    for _, block, position, _, symbol in packets(data, header, most, whole):
+        arrivals[block].append((position, symbol))
         count += 1
     report, sources = "", []
     for block, (rows, k, n, came) in enumerate(zip(codes, header.sizes, header.counts, arrivals)):
@@ -319,7 +342,7 @@ def lose(data, loss, seed, most):
     header, keep = read_header(data), keeper(loss, Draws(seed, None))
     read, kept, text = 0, 0, data[:26]
     try:
-        for count, _, _, piece in packets(data, header, most):
+        for count, _, _, piece, _ in packets(data, header, most):
             read += 1
             if keep(count):
                 kept, text = kept + 1, text + piece
@@ -333,11 +356,27 @@ def show(data, most):
     code = f"{h.name()} width {h.seed}" if h.codec in GRIDS else f"{h.name()} n1 {h.n1} seed {h.seed}"
     text = f"codec {code} length {h.length} symbol {h.symbol} block {h.block} max {h.max_n} blocks {len(h.counts)}\n"
     try:
-        for count, block, position, piece in packets(data, h, most):
-            text += f"packet {count} block {block} symbol {position} bytes {piece[4:20].hex()}\n"
+        for count, block, position, piece, _ in packets(data, h, most):
+            payload = piece[4:] if h.version == 1 else piece[6:]
+            text += f"packet {count} block {block} symbol {position} bytes {payload[:16].hex()}\n"
     except Ends as end:
         raise Ends(end.status, end.report, text.encode()) from None
     return 0, text.encode(), ""
+
+
+def upgrade(data, most):
+    header, upgraded, read = read_header(data), read_header(data), 0
+    upgraded.version = 2
+    text = upgraded.spelled()
+    try:
+        for count, block, position, _, symbol in packets(data, header, most):
+            if any(symbol[header.true_len(block, position) :]):
+                raise Ends(5, f"fault: packet {count} padding\n")
+            text += upgraded.packet(block, position, symbol)
+            read += 1
+    except Ends as end:
+        raise Ends(end.status, end.report, text) from None
+    return 0, text, f"packets {read}\n"
 
 
 # ---- datagrams
