@@ -192,8 +192,8 @@ module _ {W : Type 0} (told : W → Option (List Telling)) (faults name : W → 
         (told mid.receiver.watch) (told end.receiver.watch) before mid.receiver.cores
         end.receiver.cores last stood.stands stood.cores few (wanted_is before mid stood free)
         taken failed.count failed.front in
-        let bytes : Consumes input.bytes now.bytes (spelled all ++ []) = subst
-        (λ (l : List ℕ). Consumes input.bytes now.bytes (spelled all ++ l)) read.stopped
+        let bytes : Consumes input.bytes now.bytes (spelled h all ++ []) = subst
+        (λ (l : List ℕ). Consumes input.bytes now.bytes (spelled h all ++ l)) read.stopped
         read.taken in (
           (
             omega (arith, failed.rose, stood.later),
@@ -202,7 +202,7 @@ module _ {W : Type 0} (told : W → Option (List Telling)) (faults name : W → 
             failed.count,
             record {
               packets_are = within.packets_are;
-              taken = subst (Consumes input.bytes now.bytes) (append-nil (spelled all)) bytes;
+              taken = subst (Consumes input.bytes now.bytes) (append-nil (spelled h all)) bytes;
               part = within.part;
               told_of = within.told_of;
             },

@@ -1,8 +1,8 @@
 -- The codewords of the source blocks.
-use Rattle.std.proofs.Common.{◌≡◌, ℕ, suc, ◌+◌, ◌-◌, ◌*◌, ◌<◌, ◌≤◌, List, [], ◌∷◌, length, get_or}
-use Rattle.std.proofs.Common.{take, drop, sum_by, All, Contains, refl, sym, ap, ap₂, ◌∙◌, subst}
+use Rattle.std.proofs.Common.{◌≡◌, ℕ, suc, ◌+◌, ◌-◌, ◌*◌, ◌<◌, List, [], ◌∷◌, length, get_or}
+use Rattle.std.proofs.Common.{take, drop, sum_by, Contains, refl, sym, ap, ap₂, ◌∙◌, subst}
 use Rattle.std.proofs.Common.{arith}
-use Rattle.std.proofs.lemmas.List.Elements.{All-contains, All-weaker, Contains-get_or}
+use Rattle.std.proofs.lemmas.List.Elements.{All-contains, All-get_or, Contains-get_or}
 use Rattle.std.proofs.lemmas.List.Sums.{sum-map, sum_by-cons}
 use Rattle.sparse_rows.specs.Matrix.{Matrix, IsCode}
 use Rattle.fec_base.specs.Symbol.{IsSymbol, symbols_of}
@@ -10,10 +10,11 @@ use Rattle.sparse_rows.specs.Codeword.{IsEncoded}
 use Rattle.sparse_rows.proofs.Encode.{source_one}
 use Rattle.packet_file.specs.Header.{HeaderFields, IsHeader, source_counts, symbol_count}
 use Rattle.packet_file.specs.Header.{total_symbols}
-use Rattle.packet_file.specs.Packets.{block_symbols}
+use Rattle.packet_file.specs.Packets.{IsIdOf, block_symbols}
 use Rattle.object_file.specs.Codes.{count_at}
-use Rattle.object_file.specs.File.{block_start}
-use Rattle.object_file.specs.Made.{AreCodewords, IsReadyToWrite, block_source}
+use Rattle.object_file.specs.File.{block_start, identifier}
+use Rattle.object_file.specs.Made.{AreCodewords, ArePackets, IsReadyToWrite, block_source}
+use Rattle.object_file.proofs.LastSymbol.{padded_symbol}
 use Rattle.object_file.proofs.SourceBlocks.{part_symbols}
 
 -- the word that was encoded from a part of the bytes, by a matrix of the size of a block
@@ -50,11 +51,19 @@ module _ (h : HeaderFields) (matrices : List Matrix) (bytes : List ℕ)
   word_counted = encoded.codeword.count ∙ All-contains (λ (x : Matrix). x.n ≡ symbol_count h x.k)
       matrices m ready.sized among ∙ ap (symbol_count h) k_is
 
-  -- none of which is too long for a packet
-  pub word_short : IsHeader h → All (λ symbol. length symbol ≤ 65535) word
-  word_short header = All-weaker (IsSymbol h.oti.symbol) (λ symbol. length symbol ≤ 65535)
-      (λ symbol is. omega (arith, is.long, header.bits.symbol_bits)) word
-      encodes_block.codeword.symbols
+  -- each of which makes a packet of the file
+  pub word_packets : IsHeader h → ArePackets h b word
+  word_packets header esi lt =
+      let symbol : IsSymbol h.oti.symbol (get_or word esi []) =
+      All-get_or (IsSymbol h.oti.symbol) word esi [] lt encodes_block.codeword.symbols in
+      let of : IsIdOf h (identifier b esi) =
+      record { block = inside; symbol = omega (arith, lt, word_counted) } in
+      record {
+        id = of;
+        long = symbol.long;
+        padded = padded_symbol h header matrices bytes ready b inside m k_is word encodes_block
+            esi lt of;
+      }
 
 -- sums of as many equal terms
 pub same_sums : {X Y : Type 0} (f : X → ℕ) (g : Y → ℕ) (a : X) (b : Y) (xs : List X) (ys : List Y)

@@ -9,6 +9,8 @@ mod Chained
 mod Taking
 pub mod Telling
 mod Written
+mod Versions
+mod LastSymbol
 pub mod Codewords
 mod PacketRuns
 mod Refusing

@@ -67,10 +67,10 @@ module _ (h : HeaderFields) (code : ℕ → Matrix) (early : Bool) (most : ℕ) 
     its : AreTaken h code early most (packets ++ p ∷ [])
     its = taken_more packets p stands.packets_are takes.of_file few wanted
 
-    bytes : Consumes left now (spelled (packets ++ p ∷ []))
-    bytes = subst (Consumes left now) (sym (spelled_more packets p))
-        (Consumes-trans left mid now (spelled packets) (packet_bytes p.0 p.1)
-        (subst (Consumes left mid) (append-nil (spelled packets)) stands.taken) takes.taken)
+    bytes : Consumes left now (spelled h (packets ++ p ∷ []))
+    bytes = subst (Consumes left now) (sym (spelled_more h packets p))
+        (Consumes-trans left mid now (spelled h packets) (packet_bytes h p)
+        (subst (Consumes left mid) (append-nil (spelled h packets)) stands.taken) takes.taken)
 
     rebuilds : RebuildsBy takes.received.now (arrivals_of p.0.sbn packets) p.0.esi p.1
     rebuilds = forced _ takes.received.now (arrivals_of p.0.sbn packets) p.0.esi p.1
@@ -85,7 +85,7 @@ module _ (h : HeaderFields) (code : ℕ → Matrix) (early : Bool) (most : ℕ) 
         → StandsAt h code early most left now told told_now (packets ++ p ∷ []) []
     stands_more grown = record {
       packets_are = its;
-      taken = subst (Consumes left now) (sym (append-nil (spelled (packets ++ p ∷ [])))) bytes;
+      taken = subst (Consumes left now) (sym (append-nil (spelled h (packets ++ p ∷ [])))) bytes;
       told_of = subst (λ l. TellsOf code h.oti.symbol (packets ++ p ∷ []) l told told_now)
           (sym (told_places_more code packets p))
           (tells_all code h.oti.symbol packets p takes.received.now

@@ -5,4 +5,4 @@ use Rattle.object_file.specs.declared.options.EncodeOptions.{EncodeOptions}
 
 -- the `encode` of these options
 abbrev pub encode_command : EncodeOptions → Command
-encode_command o = Encode o.shape o.symbol o.block o.max_n
+encode_command o = Encode o.shape o.symbol o.block o.max_n o.format

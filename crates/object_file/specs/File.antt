@@ -50,13 +50,14 @@ pub record AreEncoded (h : HeaderFields) (draws : Option ℕ) (object : List ℕ
       → IsEncodedBlock h draws object b (slice_index_or words b [])
 
 -- the packets of a block's codeword, in rising order of the ESI
-abbrev pub block_packets : ℕ → List (List ℕ) → List ℕ
-block_packets b word = flat_map (λ (p : ℕ × List ℕ). packet_bytes (identifier b p.0) p.1)
+abbrev pub block_packets : HeaderFields → ℕ → List (List ℕ) → List ℕ
+block_packets h b word = flat_map (λ (p : ℕ × List ℕ). packet_bytes h (identifier b p.0, p.1))
     (enumerate_from 0 word)
 
 -- the packets of all blocks, block by block
-abbrev pub packets : List (List (List ℕ)) → List ℕ
-packets words = flat_map (λ (p : ℕ × List (List ℕ)). block_packets p.0 p.1) (enumerate_from 0 words)
+abbrev pub packets : HeaderFields → List (List (List ℕ)) → List ℕ
+packets h words = flat_map (λ (p : ℕ × List (List ℕ)). block_packets h p.0 p.1)
+    (enumerate_from 0 words)
 
 -- what is reported of so many blocks and packets
 abbrev pub encode_report : ℕ → ℕ → List ℕ
@@ -70,5 +71,5 @@ pub record IsEncoding (h : HeaderFields) (draws : Option ℕ) (object file repor
     pub header : IsHeader h
     pub words : List (List (List ℕ))
     pub encoded : AreEncoded h draws object words
-    pub file_is : file ≡ header_bytes h ++ packets words
+    pub file_is : file ≡ header_bytes h ++ packets h words
     pub report_is : report ≡ encode_report (length words) (sum_by length words)

@@ -10,7 +10,8 @@ use Rattle.packet_file.specs.Header.{symbol_count}
 use Rattle.object_file.specs.BuiltCodes.{AreCodes, HasSize}
 use Rattle.object_file.specs.Codes.{IsFirstOver, count_at}
 use Rattle.object_file.specs.Options.{header_for}
-use Rattle.object_file.specs.File.{block_start, padded}
+use Rattle.packet_file.specs.Packets.{IsPacketOf, IsZeroFrom}
+use Rattle.object_file.specs.File.{block_start, identifier, padded}
 use Rattle.object_file.specs.declared.making.Made.{Made}
 use Rattle.object_file.specs.declared.options.EncodeOptions.{EncodeOptions}
 use Rattle.tool_base.specs.declared.causes.Refusal.{Refusal}
@@ -27,10 +28,12 @@ pub record IsMade (h : HeaderFields) (draws : Option ℕ) (object : List ℕ) (m
     pub empty : made.staging.bytes ≡ []
     pub room : made.staging.room ≡ 262144
 
--- the bytes have all source symbols of the file, and each block has a matrix of its size
+-- the bytes have all source symbols of the file, the last one padded with zeros, and each block has
+-- a matrix of its size
 pub record IsReadyToWrite (h : HeaderFields) (matrices : List Matrix) (bytes : List ℕ) :
     Type 0 where
   pub long : length bytes ≡ div_ceil h.oti.length h.oti.symbol * h.oti.symbol
+  pub padding : IsZeroFrom h.oti.length bytes
   pub each : (b : ℕ) → b < length (source_counts h) → HasSize matrices (count_at h b)
   pub sized : All (λ m. m.n ≡ symbol_count h m.k) matrices
 
@@ -38,6 +41,11 @@ pub record IsReadyToWrite (h : HeaderFields) (matrices : List Matrix) (bytes : L
 abbrev pub block_source : HeaderFields → List ℕ → ℕ → List (List ℕ)
 block_source h bytes b = symbols_of h.oti.symbol (count_at h b)
     (drop (block_start h b * h.oti.symbol) bytes)
+
+-- each symbol of a block's word makes a packet of the file
+abbrev pub ArePackets : HeaderFields → ℕ → List (List ℕ) → Type 0
+ArePackets h b word = (esi : ℕ) → esi < length word
+    → IsPacketOf h (identifier b esi, slice_index_or word esi [])
 
 -- the words are the codewords of the source blocks in the bytes, each by every matrix of its size
 pub record AreCodewords (h : HeaderFields) (matrices : List Matrix) (bytes : List ℕ)

@@ -69,7 +69,7 @@ pub record AreCores (h : HeaderFields) (code : ℕ → Matrix) (packets : List P
 pub record TakesPacket (left left_now : Option (List ℕ)) (h : HeaderFields)
     (decoders decoders_now : List Decoder) (packet : Packet) : Type 0 where
   pub of_file : IsPacketOf h packet
-  pub taken : Consumes left left_now (packet_bytes packet.0 packet.1)
+  pub taken : Consumes left left_now (packet_bytes h packet)
   pub received : ReceivesAt decoders decoders_now packet.0.sbn packet.0.esi packet.1
 
 -- the packets of the input were taken to the last, `count` of them, by decoders of the file's

@@ -68,7 +68,7 @@ pub record StandsAt (h : HeaderFields) (code : ℕ → Matrix) (early : Bool) (m
     (left left_now : Option (List ℕ)) (told told_now : Option (List Telling))
     (packets : List Packet) (rest : List ℕ) : Type 0 where
   pub packets_are : AreTaken h code early most packets
-  pub taken : Consumes left left_now (spelled packets ++ rest)
+  pub taken : Consumes left left_now (spelled h packets ++ rest)
   pub told_of : TellsOf code h.oti.symbol packets (told_places code packets) told told_now
 
 -- a run stands within what its last packet makes known: no byte behind that was taken, and of what
@@ -77,7 +77,7 @@ pub record StandsWithin (h : HeaderFields) (code : ℕ → Matrix) (early : Bool
     (left left_now : Option (List ℕ)) (told told_now : Option (List Telling)) (before : List Packet)
     (last : Packet) (count : ℕ) : Type 0 where
   pub packets_are : AreTaken h code early most (before ++ last ∷ [])
-  pub taken : Consumes left left_now (spelled (before ++ last ∷ []))
+  pub taken : Consumes left left_now (spelled h (before ++ last ∷ []))
   pub part : count < length (new_places code before last)
   pub told_of : TellsOf code h.oti.symbol (before ++ last ∷ [])
       (told_places code before ++ take count (new_places code before last)) told told_now

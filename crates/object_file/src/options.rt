@@ -10,13 +10,14 @@ use packet_file::{FileFault, Header};
 use tool_base::Shape;
 
 /// The options of an `encode`: the code, the length of a symbol in bytes, and the greatest numbers
-/// of source symbols and of encoding symbols of a block.
+/// of source symbols and of encoding symbols of a block, and the version of the file.
 #[derive(Clone, Copy, Debug, PartialEq, Eq)]
 pub struct EncodeOptions {
     pub shape: Shape,
     pub symbol: u32,
     pub block: u32,
     pub max_n: u32,
+    pub format: u8,
 }
 
 impl EncodeOptions {
@@ -38,6 +39,9 @@ impl EncodeOptions {
             max_n: self.max_n,
             seed: shape.seed_field(),
         };
-        Header::new(shape.codec, oti)
+        match Header::new(shape.codec, oti) {
+            Ok(header) => Ok(header.with_version(self.format)),
+            Err(fault) => Err(fault),
+        }
     }
 }

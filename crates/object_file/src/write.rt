@@ -5,19 +5,18 @@ ghost use Rattle.std.specs.Io.KnownBytes.{Appends};
 ghost use Rattle.fec_base.specs.Bytes.{AppendsFront};
 ghost use Rattle.fec_base.specs.Parts.{AppendsPart};
 ghost use Rattle.fec_base.specs.Causes.{HasCause, Rose};
-ghost use Rattle.oti_fields.specs.Fields.{FitsIdBits};
 ghost use Rattle.packet_file.specs.Header.{header_bytes, source_counts};
-ghost use Rattle.packet_file.specs.Packets.{block_symbols, packet_bytes};
+ghost use Rattle.packet_file.specs.Packets.{IsPacketOf, block_symbols, packet_bytes};
 ghost use Rattle.object_file.specs.File.{block_packets, packets};
-ghost use Rattle.object_file.specs.Made.{AreCodewords, IsReadyToWrite};
+ghost use Rattle.object_file.specs.Made.{AreCodewords, ArePackets, IsReadyToWrite};
 ghost use Rattle.object_file.specs.Staged.{PassesOn, PassesPart};
 ghost use Rattle.object_file.specs.declared.write.WriteRefusal.TheVariants.{Memory, Output};
 
 use crate::{Staging, find_code};
 use fec_base::{NoMemory, Sink, WriteFailed};
 use fec_session::{Coded, encode_block};
-use oti_fields::{PacketId, write_id};
-use packet_file::{Header, IDENTIFIER_LEN, write_header};
+use oti_fields::PacketId;
+use packet_file::{HEAD_LEN, Header, write_head, write_header};
 use sparse_rows::Code;
 use std::alloc::Global;
 
@@ -64,17 +63,17 @@ pub fn write_file<K: Sink>(
         → AreCodewords header.now codes.now object.now words
         → OnOk result
         (Appends (K.held sink.old) (K.held sink.new)
-        (header_bytes header.now ++ packets words)) }
+        (header_bytes header.now ++ packets header.now words)) }
     ensures cut { (words : List (List (List ℕ)))
         → AreCodewords header.now codes.now object.now words
         → result ≡ Err Output
         → AppendsFront (K.held sink.old) (K.held sink.new)
-        (header_bytes header.now ++ packets words) }
+        (header_bytes header.now ++ packets header.now words) }
     ensures memory { (words : List (List (List ℕ)))
         → AreCodewords header.now codes.now object.now words
         → result ≡ Err Memory
         → AppendsPart (K.held sink.old) (K.held sink.new)
-        (header_bytes header.now ++ packets words) }
+        (header_bytes header.now ++ packets header.now words) }
     ensures cause { result ≡ Err Output → Rose (K.faults sink.old) (K.faults sink.new) }
     ensures bytes { All (λ byte. byte < 256) object.now }
 {
@@ -99,22 +98,23 @@ fn put_blocks<K: Sink>(
         → AreCodewords header.now codes.now object.now words
         → OnOk result
         (PassesOn (K.held sink.old) (K.held sink.new) staging.old.bytes staging.new.bytes
-        (packets words)) }
+        (packets header.now words)) }
     ensures cut { (words : List (List (List ℕ)))
         → AreCodewords header.now codes.now object.now words
         → result ≡ Err Output
-        → AppendsFront (K.held sink.old) (K.held sink.new) (staging.old.bytes ++ packets words) }
+        → AppendsFront (K.held sink.old) (K.held sink.new)
+        (staging.old.bytes ++ packets header.now words) }
     ensures memory { (words : List (List (List ℕ)))
         → AreCodewords header.now codes.now object.now words
         → result ≡ Err Memory
         → PassesPart (K.held sink.old) (K.held sink.new) staging.old.bytes staging.new.bytes
-        (packets words) }
+        (packets header.now words) }
     ensures cause { result ≡ Err Output → Rose (K.faults sink.old) (K.faults sink.new) }
     ensures later { K.faults sink.old ≤ K.faults sink.new }
 {
     for block in 0..header.plan().count() {
         let word = encode_source(alloc, header, codes, object, block)?;
-        put_block(staging, sink, block, &word, header.symbol_count(block))?;
+        put_block(staging, sink, header, block, &word)?;
     }
     Ok(())
 }
@@ -133,7 +133,7 @@ fn encode_source(
         → AreCodewords header.now codes.now object.now words
         → IfOk result (λ word. word ≡ slice_index_or words block []) }
     ensures counted { IfOk result (λ word. length word ≡ block_symbols header.now block) }
-    ensures symbols { IfOk result (All (λ symbol. length symbol ≤ 65535)) }
+    ensures packets { IfOk result (ArePackets header.now block) }
 {
     let len = header.oti().symbol;
     let code = find_code(codes, header.source_count(block));
@@ -146,28 +146,28 @@ fn encode_source(
 fn put_block<K: Sink>(
     staging: &mut Staging,
     sink: &mut K,
+    header: &Header,
     block: u32,
     word: &Coded,
-    count: u32,
 ) -> Result<(), WriteFailed>
     requires room { staging.old.room ≡ 262144 }
-    requires block { block < 4096 }
-    requires counted { length word.now ≡ count }
-    requires most { count ≤ 65536 }
-    requires symbols { All (λ symbol. length symbol ≤ 65535) word.now }
+    requires block { block < length (source_counts header.now) }
+    requires counted { length word.now ≡ block_symbols header.now block }
+    requires packets { ArePackets header.now block word.now }
     ensures passed { OnOk result
         (PassesOn (K.held sink.old) (K.held sink.new) staging.old.bytes staging.new.bytes
-        (block_packets block word.now)) }
+        (block_packets header.now block word.now)) }
     ensures cut { OnErr result
         (AppendsFront (K.held sink.old) (K.held sink.new)
-        (staging.old.bytes ++ block_packets block word.now)) }
+        (staging.old.bytes ++ block_packets header.now block word.now)) }
     ensures room { staging.new.room ≡ staging.old.room }
     ensures cause { HasCause (K.faults sink.old) (K.faults sink.new) result }
 {
-    for esi in 0..count {
+    for esi in 0..header.symbol_count(block) {
         put_packet(
             staging,
             sink,
+            header,
             PacketId { sbn: block, esi },
             word.symbol(esi),
         )?;
@@ -175,28 +175,30 @@ fn put_block<K: Sink>(
     Ok(())
 }
 
-// Puts a packet.
+// Puts a packet of the file.
 fn put_packet<K: Sink>(
     staging: &mut Staging,
     sink: &mut K,
+    header: &Header,
     id: PacketId,
     symbol: &[u8],
 ) -> Result<(), WriteFailed>
     requires room { staging.old.room ≡ 262144 }
-    requires id { FitsIdBits id }
-    requires symbol { length symbol.now ≤ 65535 }
+    requires packet { IsPacketOf header.now (id, symbol.now) }
     ensures passed { OnOk result
         (PassesOn (K.held sink.old) (K.held sink.new) staging.old.bytes staging.new.bytes
-        (packet_bytes id symbol.now)) }
+        (packet_bytes header.now (id, symbol.now))) }
     ensures cut { OnErr result
         (AppendsFront (K.held sink.old) (K.held sink.new)
-        (staging.old.bytes ++ packet_bytes id symbol.now)) }
+        (staging.old.bytes ++ packet_bytes header.now (id, symbol.now))) }
     ensures room { staging.new.room ≡ staging.old.room }
     ensures cause { HasCause (K.faults sink.old) (K.faults sink.new) result }
 {
-    let mut identifier = [0u8; IDENTIFIER_LEN];
-    write_id(id, &mut identifier);
-    staging.put(sink, &identifier)?;
-    staging.put(sink, symbol)?;
+    prove!(header.symbol_len() <= 65535);
+    let len = header.payload_len(id) as usize;
+    let mut head = [0u8; HEAD_LEN];
+    let count = write_head(header, id, &mut head);
+    staging.put(sink, &head[..count])?;
+    staging.put(sink, &symbol[..len])?;
     Ok(())
 }

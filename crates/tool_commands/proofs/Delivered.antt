@@ -15,8 +15,8 @@ module _ (o : EncodeOptions) (input input_now : Stream) (h : HeaderFields)
     (words : List (List (List ℕ))) (object : List ℕ)
     (reads : ReadsObject o input.bytes input_now.bytes object)
     (encoding : IsEncoding (header_for o (length object)) o.shape.draws object
-    (header_bytes h ++ packets words) (encode_report (length words) (sum_by length words))) where
-  encoded : Encoded o input input_now (header_bytes h ++ packets words)
+    (header_bytes h ++ packets h words) (encode_report (length words) (sum_by length words))) where
+  encoded : Encoded o input input_now (header_bytes h ++ packets h words)
       (encode_report (length words) (sum_by length words))
   encoded = record { object = object; reads = reads; encoding = encoding }
 

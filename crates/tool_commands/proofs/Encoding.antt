@@ -4,15 +4,16 @@ use Rattle.std.proofs.Common.{length, get_or, drop, take, replicate, sum_by, All
 use Rattle.std.proofs.Common.{Some, refl, sym, ap, ◌∙◌, subst, arith, length-append, length-drop}
 use Rattle.std.specs.Int.{div_ceil}
 use Rattle.std.proofs.lemmas.Option.{same_Some}
-use Rattle.std.proofs.lemmas.List.{length-replicate}
+use Rattle.std.proofs.lemmas.List.{drop_at, length-replicate}
 use Rattle.std.proofs.lemmas.List.Elements.{All-contains, All-drop, Contains-get_or}
 use Rattle.blocking.proofs.Spread.{ceil_room}
 use Rattle.sparse_rows.specs.Matrix.{Matrix, HasShape, IsCode}
-use Rattle.fec_base.specs.Symbol.{symbols_of}
+use Rattle.fec_base.specs.Symbol.{symbols_of, zero_symbol}
 use Rattle.sparse_rows.specs.Codeword.{IsEncoded}
 use Rattle.sparse_rows.proofs.Encode.{extend, source_has}
 use Rattle.sparse_rows.proofs.Symbols.{length_symbols, symbols_are}
 use Rattle.packet_file.specs.Header.{HeaderFields, IsHeader, header_bytes, source_counts}
+use Rattle.packet_file.specs.Packets.{IsZeroFrom}
 use Rattle.packet_file.proofs.Sizes.{fields_have_sizes}
 use Rattle.object_file.specs.BuiltCodes.{AreCodes}
 use Rattle.object_file.specs.Codes.{count_at, header_matrix}
@@ -46,6 +47,13 @@ padded_long : (size : ℕ) (bytes : List ℕ) → length bytes ≤ size → leng
 padded_long size bytes le = length-append bytes (replicate (size - length bytes) 0)
     ∙ omega (arith, length-replicate {A = ℕ} (size - length bytes) 0)
 
+-- and zero behind themselves
+zero_behind : (n size : ℕ) (bytes : List ℕ) → length bytes ≡ n → IsZeroFrom n (padded size bytes)
+zero_behind n size bytes long =
+    let zeros : List ℕ = replicate (size - length bytes) 0 in
+    subst (λ l. l ≡ zero_symbol (length l)) (sym (drop_at bytes zeros n long))
+    (ap zero_symbol (sym (length-replicate {A = ℕ} (size - length bytes) 0)))
+
 module _ (h : HeaderFields) (header : IsHeader h) (draws : Option ℕ) (object : List ℕ)
     (size : h.oti.length ≡ length object) (matrices : List Matrix)
     (codes : AreCodes h draws matrices)
@@ -58,6 +66,8 @@ module _ (h : HeaderFields) (header : IsHeader h) (draws : Option ℕ) (object :
         object (ceil_room (length object) h.oti.symbol
         (fields_have_sizes h.codec h.oti header.fields).symbol)
         ∙ ap (λ (n : ℕ). div_ceil n h.oti.symbol * h.oti.symbol) (sym size);
+    padding = subst (IsZeroFrom h.oti.length) (sym bytes_are) (zero_behind h.oti.length
+        (div_ceil (length object) h.oti.symbol * h.oti.symbol) object (sym size));
     each = codes.each;
     sized = codes.sized;
   }
@@ -175,7 +185,7 @@ module _ (o : EncodeOptions) (left left_now : Option (List ℕ)) (object : List 
   pub made_file : All (λ byte. byte < 256) made.object.items → (ws : List (List (List ℕ)))
       × AreCodewords made.header made.codes.items made.object.items ws
       × IsEncoding (header_for o (length object)) o.shape.draws object (header_bytes made.header
-      ++ packets ws) (encode_report (length ws) (sum_by length ws))
+      ++ packets made.header ws) (encode_report (length ws) (sum_by length ws))
   made_file small =
       let all = words h reads.header o.shape.draws object refl made.codes.items is.codes
       made.object.items is.padded_is small in (
@@ -186,7 +196,7 @@ module _ (o : EncodeOptions) (left left_now : Option (List ℕ)) (object : List 
           header = reads.header;
           words = all.0;
           encoded = all.2;
-          file_is = ap (λ (x : HeaderFields). header_bytes x ++ packets all.0) is.header;
+          file_is = ap (λ (x : HeaderFields). header_bytes x ++ packets x all.0) is.header;
           report_is = refl;
         },
       )

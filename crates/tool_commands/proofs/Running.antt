@@ -4,7 +4,7 @@ use Rattle.std.proofs.KnownBytes.{Appends-nil, Consumes-nil}
 use Rattle.datagram_pass.specs.declared.kind.Way.{Way}
 use Rattle.datagram_pass.specs.declared.kind.Way.TheVariants.{Framing, Unframing}
 use Rattle.packet_pass.specs.declared.kind.Pass.{Pass}
-use Rattle.packet_pass.specs.declared.kind.Pass.TheVariants.{Lose, Show}
+use Rattle.packet_pass.specs.declared.kind.Pass.TheVariants.{Lose, Show, Upgrade}
 use Rattle.tool_base.specs.Status.{fault_text}
 use Rattle.tool_base.specs.declared.command.Command.{Command}
 use Rattle.tool_base.specs.declared.command.Command.TheVariants as command
@@ -60,7 +60,7 @@ module _ (before : Streams) (report : Stream) where
       → IsCommandRun asked before after watch watch ended
   runs_out watch None ended is told =
       rw is (record { ends = inr refl; input = refl; output = refl; told = told })
-  runs_out watch (Some (command.Encode shape symbol block max_n)) ended is told = record {
+  runs_out watch (Some (command.Encode shape symbol block max_n format)) ended is told = record {
     ends = ends_refused _ _ before.output before.report report ended Memory is tt told;
     taken = ([], Consumes-nil before.input.bytes, omega arith);
   }
@@ -70,6 +70,7 @@ module _ (before : Streams) (report : Stream) where
   runs_out watch (Some (command.Lose loss seed most)) ended is told = pass_out (Lose loss seed) most
       ended is told
   runs_out watch (Some (command.Show most)) ended is told = pass_out Show most ended is told
+  runs_out watch (Some (command.Upgrade most)) ended is told = pass_out Upgrade most ended is told
   runs_out watch (Some (command.Perf shape symbol k n loss random runs seed)) ended is told =
       record {
         input = refl;

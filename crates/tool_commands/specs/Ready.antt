@@ -15,9 +15,9 @@ use Rattle.tool_commands.specs.Outcomes.{decode_report, if_done, object_of, outc
 -- what is due of a file whose blocks have these codewords: its bytes and its report; or a part of
 -- them from the front on, where memory lacked
 abbrev pub FileDue : HeaderFields → List (List (List ℕ)) → Due
-FileDue h words status.Done out text = (out ≡ header_bytes h ++ packets words)
+FileDue h words status.Done out text = (out ≡ header_bytes h ++ packets h words)
     × (text ≡ encode_report (length words) (sum_by length words))
-FileDue h words status.Memory out text = IsPartOf (header_bytes h ++ packets words) out
+FileDue h words status.Memory out text = IsPartOf (header_bytes h ++ packets h words) out
     × (text ≡ refusal_text Memory)
 FileDue h words _ out text = ⊥
 

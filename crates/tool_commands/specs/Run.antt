@@ -1,7 +1,7 @@
 -- What a run does.
 use Rattle.std.specs.Prelude.{Bool, List, None, Option, Some, ℕ, ◌≡◌, ◌≢◌, ◌⊎◌}
 use Rattle.datagram_pass.specs.declared.kind.Way.TheVariants.{Framing, Unframing}
-use Rattle.packet_pass.specs.declared.kind.Pass.TheVariants.{Lose, Show}
+use Rattle.packet_pass.specs.declared.kind.Pass.TheVariants.{Lose, Show, Upgrade}
 use Rattle.tool_base.specs.Commands.{command_of}
 use Rattle.tool_base.specs.Status.{fault_text}
 use Rattle.tool_base.specs.declared.command.Command.{Command}
@@ -29,15 +29,22 @@ pub record IsUsageRun (before after : Streams) (ended : Status) : Type 0 where
 -- what a run of a command does, or one of words that mean none
 abbrev pub IsCommandRun : Option Command → Streams → Streams → Hearing → Hearing → Status → Type 0
 IsCommandRun None before after watch watch_now ended = IsUsageRun before after ended
-IsCommandRun (Some (command.Encode shape symbol block max_n)) before after watch watch_now ended =
-    IsEncodeRun (record { shape = shape; symbol = symbol; block = block; max_n = max_n })
-    before after ended
+IsCommandRun (Some (command.Encode shape symbol block max_n format)) before after watch
+    watch_now ended = IsEncodeRun (record {
+      shape = shape;
+      symbol = symbol;
+      block = block;
+      max_n = max_n;
+      format = format;
+    }) before after ended
 IsCommandRun (Some (command.Decode draws early most)) before after watch watch_now ended =
     IsDecodeRun draws early most before after watch watch_now ended
 IsCommandRun (Some (command.Lose loss seed most)) before after watch watch_now ended =
     IsPassRun (Lose loss seed) most before after ended
 IsCommandRun (Some (command.Show most)) before after watch watch_now ended =
     IsPassRun Show most before after ended
+IsCommandRun (Some (command.Upgrade most)) before after watch watch_now ended =
+    IsPassRun Upgrade most before after ended
 IsCommandRun (Some (command.Perf shape symbol k n loss random runs seed)) before after watch
     watch_now ended = IsPerfRun (record {
       shape = shape;

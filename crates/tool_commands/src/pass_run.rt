@@ -1,4 +1,4 @@
-// The `lose` and the `show` of a packet file.
+// The `lose`, the `show` and the `upgrade` of a packet file.
 ghost use Rattle.std.specs.Prelude.{◌≤◌, ◌++◌, OnErr, OnOk, codes, decimal};
 ghost use Rattle.std.specs.Io.KnownBytes.{Appends};
 ghost use Rattle.fec_base.specs.Bytes.{AppendsFront};
@@ -14,9 +14,9 @@ use std::alloc::Global;
 use tool_base::{Refusal, Status, conclude, put_number, put_numbered, put_text, refuse, tell};
 
 /// Passes once over the packet file that the input is, of at most `most` packets, and writes it
-/// without the packets that are lost, or shows it. One packet is in memory at a time, and each
+/// without the packets that are lost, shows it, or writes it in version 2. One packet is in memory at a time, and each
 /// packet's text is handed over before a byte behind the packet is asked for. A pass that loses
-/// packets reports how many it read and how many it kept.
+/// packets reports how many it read and how many it kept, and one that upgrades how many there are.
 pub fn run_pass<S: Source, K: Sink, R: Sink>(
     alloc: Global,
     what: Pass,
@@ -52,6 +52,7 @@ fn put_pass_report<R: Sink>(report: &mut R, what: Pass, passed: Passed) -> Resul
     match what {
         Pass::Lose { .. } => put_counts(report, passed.packets, passed.kept),
         Pass::Show => Ok(()),
+        Pass::Upgrade => put_numbered(report, "packets ", passed.packets),
     }
 }
 

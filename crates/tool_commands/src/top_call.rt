@@ -27,16 +27,17 @@ pub struct Ended<W = Box<dyn Watch>> {
 /// Runs a command: the words say which, the input is read, the output and the report are written,
 /// and the watch comes back.
 ///
-/// The commands are `encode`, `decode`, `lose`, `show`, `perf`, `frame` and `unframe`
+/// The commands are `encode`, `decode`, `lose`, `show`, `upgrade`, `perf`, `frame` and `unframe`
 /// (docs/COMMANDS.md). At `Done` the output is the packet file of the whole input, the object that
 /// the packets of the input determine, the packet file without the packets that are lost, or its
-/// lines, or the lines of the runs of a decoder, or the frames of a stream of datagrams, or the
-/// stream of frames; and the report is its counts. At `WriteFault` the output has a front of that,
-/// or the whole of it where the report alone failed. An `encode` or a `perf` that ends for want of
-/// memory may have written a part of its output, from its front on. A `lose` or a `show` whose
-/// input fails or is no packet file has written the text of the packets before, and a `frame` or an
-/// `unframe` whose input fails or has a fault what goes for the datagrams before. At every other
-/// status nothing was written to the output. A `decode` tells the watch, after each packet and
+/// lines, or the packet file in version 2, or the lines of the runs of a decoder, or the frames of
+/// a stream of datagrams, or the stream of frames; and the report is its counts. At `WriteFault`
+/// the output has a front of that, or the whole of it where the report alone failed. An `encode` or
+/// a `perf` that ends for want of memory may have written a part of its output, from its front on.
+/// A `lose`, a `show` or an `upgrade` whose input fails or is no packet file, or has a packet that
+/// can't be passed on, has written the text of the packets before, and a `frame` or an `unframe`
+/// whose input fails or has a fault what goes for the datagrams before. At every other status
+/// nothing was written to the output. A `decode` tells the watch, after each packet and
 /// before a further byte is read, of each symbol that this packet makes known.
 pub fn run<S: Source, K: Sink, R: Sink>(
     alloc: Global,
@@ -125,12 +126,14 @@ fn run_command<S: Source, K: Sink, R: Sink, W: Watch>(
             symbol,
             block,
             max_n,
+            format,
         } => {
             let options = EncodeOptions {
                 shape,
                 symbol,
                 block,
                 max_n,
+                format,
             };
             let status = encode(alloc, &options, input, output, report);
             Ended { status, watch }
@@ -151,6 +154,10 @@ fn run_command<S: Source, K: Sink, R: Sink, W: Watch>(
         }
         Command::Show { packets } => {
             let status = run_pass(alloc, Pass::Show, packets, input, output, report);
+            Ended { status, watch }
+        }
+        Command::Upgrade { packets } => {
+            let status = run_pass(alloc, Pass::Upgrade, packets, input, output, report);
             Ended { status, watch }
         }
         Command::Perf {

@@ -1,10 +1,11 @@
-use Rattle.std.proofs.Common.{List, [], ℕ, ◌≡◌, ◌≤◌, length, get_or, sum, take, All, sym, ap, ◌∙◌}
+use Rattle.std.proofs.Common.{[], ◌≡◌, length, get_or, sum, take, sym, ap, ◌∙◌}
 use Rattle.std.proofs.Common.{subst}
 use Rattle.std.proofs.lemmas.Result.{IfOk-weaker}
 use Rattle.packet_file.specs.Packets.{block_symbols}
 use Rattle.object_file.specs.BuiltCodes.{HasSize}
+use Rattle.object_file.specs.Made.{ArePackets}
 use Rattle.object_file.proofs.SourceBlocks.{block_room}
-use Rattle.object_file.proofs.Codewords.{word_is, word_counted, word_short}
+use Rattle.object_file.proofs.Codewords.{word_is, word_counted, word_packets}
 use Rattle.object_file.proofs.write.encode_source.Goals as goal
 
 pub find_code-code-requires : goal.find_code-code-requires
@@ -47,13 +48,13 @@ returns-clause-counted c =
     ∙ ap (λ counts. sum (take b counts)) c.plan.ensures)
     word encoded) c.encode_block.ensures
 
-pub returns-clause-symbols : goal.returns-clause-symbols
-returns-clause-symbols c =
+pub returns-clause-packets : goal.returns-clause-packets
+returns-clause-packets c =
     let h = c.args.header.now in
     let b = c.args.block in
-    IfOk-weaker c.encode_block.result _ (All (λ (symbol : List ℕ). length symbol ≤ 65535))
+    IfOk-weaker c.encode_block.result _ (ArePackets h b)
     (λ word encoded.
-    word_short h c.args.codes.now c.args.object.now c.requires.ready b c.requires.block
+    word_packets h c.args.codes.now c.args.object.now c.requires.ready b c.requires.block
     c.find_code-code.result.now c.oti.result.now.symbol c.k.result c.block_start.result
     c.find_code-code.ensures.among
     (ap (λ oti. oti.symbol) c.oti.ensures.value) c.k.ensures.value (c.find_code-code.ensures.size

@@ -23,9 +23,9 @@ loop-block-preserved g c =
           ) in
           let second = subst (λ (word : List (List ℕ)). PassesOn (held c.loop-block.sink)
           (held c.put_block.new.sink) c.loop-block.staging.bytes c.put_block.new.staging.bytes
-          (block_packets b word)) (c.in_ok-word.ensures.word words are)
+          (block_packets c.args.header.now b word)) (c.in_ok-word.ensures.word words are)
           c.in_ok-put_block.ensures.passed in
-          pieces_pass block_packets (held c.args.sink.now) (held c.loop-block.sink)
+          pieces_pass (block_packets c.args.header.now) (held c.args.sink.now) (held c.loop-block.sink)
           (held c.put_block.new.sink) c.args.staging.now.bytes c.loop-block.staging.bytes words
           b [] inside (c.loop-block.invariant.passed words are)
           c.put_block.new.staging.bytes second;
@@ -36,10 +36,10 @@ pub returns-in_err-word-clause-memory : goal.returns-in_err-word-clause-memory
 returns-in_err-word-clause-memory g c words are _ =
     let b = c.loop-block.block in
     record {
-      part = packets (take b words);
+      part = packets c.args.header.now (take b words);
       passed = c.loop-block.invariant.passed words are;
-      rest = pieces_from block_packets (0 + length (take b words)) (drop b words);
-      whole = pieces_front block_packets words b;
+      rest = pieces_from (block_packets c.args.header.now) (0 + length (take b words)) (drop b words);
+      whole = pieces_front (block_packets c.args.header.now) words b;
     }
 
 pub returns-in_err-put_block-clause-cut : goal.returns-in_err-put_block-clause-cut
@@ -55,8 +55,8 @@ returns-in_err-put_block-clause-cut g c words are _ =
       are.counted,
     ) in
     let second = subst (λ (word : List (List ℕ)). AppendsFront (held c.loop-block.sink)
-    (held c.put_block.new.sink) (c.loop-block.staging.bytes ++ block_packets b word))
+    (held c.put_block.new.sink) (c.loop-block.staging.bytes ++ block_packets c.args.header.now b word))
     (c.in_ok-word.ensures.word words are) c.in_err-put_block.ensures.cut in
-    pieces_cut block_packets (held c.args.sink.now) (held c.loop-block.sink)
+    pieces_cut (block_packets c.args.header.now) (held c.args.sink.now) (held c.loop-block.sink)
     (held c.put_block.new.sink) c.args.staging.now.bytes c.loop-block.staging.bytes words b []
     inside (c.loop-block.invariant.passed words are) second

@@ -9,6 +9,6 @@ invariant-loop-block g l = record {
   room : l.staging.room ≡ 262144;
   passed : (words : List (List (List ℕ))) → AreCodewords l.header l.codes l.object words
       → PassesOn (g.K.Sink.held l.initial.sink) (g.K.Sink.held l.sink) l.initial.staging.bytes
-      l.staging.bytes (packets (take l.block words));
+      l.staging.bytes (packets l.header (take l.block words));
   later : g.K.Sink.faults l.initial.sink ≤ g.K.Sink.faults l.sink;
 }

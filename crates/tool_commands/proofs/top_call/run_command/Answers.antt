@@ -7,7 +7,7 @@ use Rattle.tool_commands.proofs.top_call.run_command.Goals as goal
 pub returns-in-Encode-clause-runs : goal.returns-in-Encode-clause-runs
 returns-in-Encode-clause-runs g c =
     let e = c.in-Encode in
-    let asked = command.Encode e.shape e.symbol e.block e.max_n in
+    let asked = command.Encode e.shape e.symbol e.block e.max_n e.format in
     let is : Some c.args.command ≡ Some asked = search rules in
     let run = c.encode-status.ensures in
     runs_asked _ _ _ _ _ (Some c.args.command) (Some asked) is
@@ -38,6 +38,12 @@ returns-in-Show-clause-runs g c =
     let asked = command.Show s.packets in
     let is : Some c.args.command ≡ Some asked = search rules in
     runs_asked _ _ _ _ _ (Some c.args.command) (Some asked) is c.run_pass-status-in-Show.ensures
+
+pub returns-in-Upgrade-clause-runs : goal.returns-in-Upgrade-clause-runs
+returns-in-Upgrade-clause-runs g c =
+    let asked = command.Upgrade c.in-Upgrade.packets in
+    let is : Some c.args.command ≡ Some asked = search rules in
+    runs_asked _ _ _ _ _ (Some c.args.command) (Some asked) is c.run_pass-status-in-Upgrade.ensures
 
 pub returns-in-Perf-clause-runs : goal.returns-in-Perf-clause-runs
 returns-in-Perf-clause-runs g c =
