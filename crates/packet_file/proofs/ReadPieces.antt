@@ -21,7 +21,8 @@ use Rattle.packet_file.specs.Faults.{HasPacketFault}
 use Rattle.packet_file.specs.OneReading.{StopsAt, stop_by}
 use Rattle.packet_file.specs.OneReading.Stop.{Failed}
 use Rattle.packet_file.specs.OnePacket.{StopsBefore}
-use Rattle.packet_file.specs.Taking.{TakesAtMost, packet_most, packet_most_by}
+use Rattle.packet_file.specs.Taking.{TakesAtMost}
+use Rattle.packet_file.specs.PacketMost.{packet_most, packet_most_by}
 use Rattle.packet_file.specs.declared.fault.FileFault.{FileFault}
 use Rattle.packet_file.specs.declared.fault.FileFault.TheVariants.{ReadFault}
 use Rattle.packet_file.specs.declared.version.Version.{Version}

@@ -8,3 +8,4 @@ pub mod OnePacket
 pub mod Files
 pub mod Laws
 pub mod FaultLaws
+pub mod PacketMost

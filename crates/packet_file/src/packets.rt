@@ -15,7 +15,8 @@ ghost use Rattle.packet_file.specs.Faults.{HasPacketFault};
 ghost use Rattle.packet_file.specs.OneReading.{stop_by};
 ghost use Rattle.packet_file.specs.OneReading.Stop.{End};
 ghost use Rattle.packet_file.specs.OnePacket.{StopsBefore, TakesPacketOf};
-ghost use Rattle.packet_file.specs.Taking.{TakesAtMost, packet_most};
+ghost use Rattle.packet_file.specs.Taking.{TakesAtMost};
+ghost use Rattle.packet_file.specs.PacketMost.{packet_most};
 ghost use Rattle.packet_file.specs.declared.version.Version.TheVariants.{Two};
 
 use crate::version::Version;
