@@ -24,8 +24,8 @@ fn are_too_many(symbol: usize, index: u64) -> bool
     (index + 1) * symbol as u64 > MOST_BYTES
 }
 
-/// Reads datagram number `index` of a stream, its bytes to the front of `buf`, which is as long as a
-/// frame. None comes exactly at the end of the input.
+/// Reads datagram number `index` of a stream, its bytes to the front of `buf`, which is as long as
+/// a frame. None comes exactly at the end of the input.
 pub fn next_datagram<S: Source>(
     src: &mut S,
     index: u64,

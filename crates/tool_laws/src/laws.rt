@@ -191,9 +191,9 @@ pub fn what_is_left_is_never_decoded_wrong()
     null_words_show_what_is_open();
 }
 
-/// A `frame` of a stream of datagrams, and an `unframe` of their frames, refuses nothing, within the
-/// limits and where nothing outside fails: what goes for the datagrams is written, and their number
-/// is reported; or memory lacks.
+/// A `frame` of a stream of datagrams, and an `unframe` of their frames, refuses nothing, within
+/// the limits and where nothing outside fails: what goes for the datagrams is written, and their
+/// number is reported; or memory lacks.
 pub fn datagrams_are_run()
     ensures { DatagramsAreRun }
 {

@@ -55,7 +55,8 @@ FaultDue way symbol input input_now ended out text = (fault : DatagramFault)
     × PassEnds way symbol input input_now (early.Fault fault) out
     × (text ≡ datagram_fault_text way fault)
 
--- what is due of a pass: what goes for all datagrams that the input is, and their number; or a fault
+-- what is due of a pass: what goes for all datagrams that the input is, and their number; or a
+-- fault
 abbrev pub DatagramsDue : Way → ℕ → Stream → Stream → Due
 DatagramsDue way symbol input input_now status.Done out text = (count : ℕ)
     × PassesWhole way symbol input input_now count out × (text ≡ count_text count)
@@ -65,8 +66,8 @@ DatagramsDue way symbol input input_now status.Limit out text =
     FaultDue way symbol input input_now status.Limit out text
 DatagramsDue way symbol input input_now _ out text = ⊥
 
--- a pass is refused: memory lacked before a byte was taken or written; or its input failed, and what
--- goes for the datagrams before was written
+-- a pass is refused: memory lacked before a byte was taken or written; or its input failed, and
+-- what goes for the datagrams before was written
 abbrev pub RefusesDatagrams : Way → ℕ → Stream → Stream → Refuses
 RefusesDatagrams way symbol input input_now Memory out =
     PassEnds way symbol input input_now early.Memory out

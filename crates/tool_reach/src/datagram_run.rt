@@ -89,8 +89,10 @@ fn put_fault<R: Sink>(report: &mut R, way: Way, fault: DatagramFault) -> Result<
 
 // Reports how the report of a fault begins.
 fn put_item_text<R: Sink>(report: &mut R, way: Way) -> Result<(), WriteFailed>
-    ensures written { OnOk result (Appends (R.held report.old) (R.held report.new) (item_text way)) }
-    ensures cut { OnErr result (AppendsFront (R.held report.old) (R.held report.new) (item_text way)) }
+    ensures written { OnOk result
+        (Appends (R.held report.old) (R.held report.new) (item_text way)) }
+    ensures cut { OnErr result
+        (AppendsFront (R.held report.old) (R.held report.new) (item_text way)) }
     ensures cause { HasCause (R.faults report.old) (R.faults report.new) result }
 {
     match way {

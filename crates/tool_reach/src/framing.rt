@@ -11,9 +11,9 @@ use std::alloc::Global;
 use tool_base::Status;
 
 /// Writes the frame of each datagram of the stream that the input is: the frames are the symbols of
-/// an object. One datagram is in memory at a time, and its frame is handed over before a byte behind
-/// the datagram is asked for. All memory is taken before the first byte is. The report has the
-/// number of datagrams.
+/// an object. One datagram is in memory at a time, and its frame is handed over before a byte
+/// behind the datagram is asked for. All memory is taken before the first byte is. The report has
+/// the number of datagrams.
 pub fn frame<S: Source, K: Sink, R: Sink>(
     alloc: Global,
     symbol: u32,

@@ -10,9 +10,10 @@ use fec_base::{Sink, Source};
 use std::alloc::Global;
 use tool_base::Status;
 
-/// Writes the datagram of each frame that the input has, one after the other: a datagram stream. One
-/// frame is in memory at a time, and its datagram is handed over before a byte behind the frame is
-/// asked for. All memory is taken before the first byte is. The report has the number of datagrams.
+/// Writes the datagram of each frame that the input has, one after the other: a datagram stream.
+/// One frame is in memory at a time, and its datagram is handed over before a byte behind the frame
+/// is asked for. All memory is taken before the first byte is. The report has the number of
+/// datagrams.
 pub fn unframe<S: Source, K: Sink, R: Sink>(
     alloc: Global,
     symbol: u32,

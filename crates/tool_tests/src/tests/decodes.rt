@@ -1,7 +1,7 @@
 // What a decode tells, packet by packet, how its blocks come out, and where it stops.
 use super::{
-    CORNER_FILE, GRID_FILE, Outside, REBUILT, STAIRCASE_FILE, ample, check, check_left, check_told, run_in,
-    run_over, with_packets,
+    CORNER_FILE, GRID_FILE, Outside, REBUILT, STAIRCASE_FILE, ample, check, check_left, check_told,
+    run_in, run_over, with_packets,
 };
 use fec_base::Place;
 use std::alloc::Global;
@@ -178,7 +178,7 @@ fn packets_decide_how_a_grid_comes_out(rt: HostRuntime) -> Result<(), Fail> {
     Ok(())
 }
 
-// Packets of the grid with a corner. The first row of the grid lacks a symbol until the corner comes.
+// Packets of the grid with a corner. Its first row lacks a symbol until the corner comes.
 const CORNER_PACKETS: [(u8, u8); 8] = [
     (1, 2),
     (2, 4),
