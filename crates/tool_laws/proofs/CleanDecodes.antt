@@ -1,5 +1,5 @@
 -- What a `decode` comes to where nothing outside fails.
-use Rattle.std.proofs.Common.{◌≡◌, ◌≢◌, ◌⊎◌, inl, inr, ⊎_elim, ℕ, ◌≤◌, Bool, List, ◌++◌, length}
+use Rattle.std.proofs.Common.{◌≡◌, ◌⊎◌, inl, inr, ⊎_elim, ℕ, ◌≤◌, Bool, List, ◌++◌, length}
 use Rattle.std.proofs.Common.{get_or, Option, Some, refl, sym, ap, ◌∙◌, subst, append_assoc}
 use Rattle.std.specs.Io.KnownBytes.{Appends, Consumes, Keeps}
 use Rattle.std.proofs.lemmas.List.Elements.{All-contains}
@@ -103,8 +103,7 @@ module _ (header_one : HeaderIsOne) (packet_one : PacketIsOne)
         piece,
         subst (λ (l : Option (List ℕ)). Consumes (Some (piece ++ rest)) l piece) (sym left_is)
             refl,
-        bad.0,
-        bad.1,
+        bad,
       )
 
   not_behind : (fault : FileFault) → FailsBehind limit early most before.input after.input watch

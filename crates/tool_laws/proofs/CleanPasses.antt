@@ -1,5 +1,5 @@
 -- What a pass over a packet file comes to where nothing outside fails.
-use Rattle.std.proofs.Common.{◌≡◌, ◌⊎◌, inl, inr, ⊎_elim, ℕ, List, ◌++◌, length, Option}
+use Rattle.std.proofs.Common.{◌≡◌, inl, inr, ⊎_elim, ℕ, List, ◌++◌, length, Option}
 use Rattle.std.proofs.Common.{Some, refl, sym, ap, ap₂, ◌∙◌, subst, append_assoc, append-nil}
 use Rattle.std.proofs.Common.{[], ◌∷◌, All, Contains}
 use Rattle.std.proofs.lemmas.List.{append_cancel_left}
@@ -85,8 +85,7 @@ module _ (header_one : HeaderIsOne) (packet_one : PacketIsOne)
         piece,
         subst (λ (l : Option (List ℕ)). Consumes (Some (piece ++ rest)) l piece) (sym left_is)
             refl,
-        read.reads.stopped.0,
-        read.reads.stopped.1,
+        read.reads.stopped,
       )
 
   -- nor is a packet of it one that can't be passed on

@@ -1,6 +1,6 @@
 -- A `decode` of what an `encode` wrote.
 use Rattle.std.proofs.Common.{◌≡◌, ℕ, ◌≤◌, Bool, List, [], length, Option, Some, refl, sym, subst}
-use Rattle.std.proofs.Common.{⊎_elim, arith}
+use Rattle.std.proofs.Common.{arith}
 use Rattle.std.specs.Io.KnownBytes.{Appends, Consumes}
 use Rattle.std.proofs.lemmas.List.Elements.{All-contains_itself}
 use Rattle.sparse_rows.specs.Laws.{NullWordHoldsSource}
@@ -14,7 +14,7 @@ use Rattle.tool_base.specs.declared.status.Status.{Status}
 use Rattle.tool_base.specs.declared.status.Status.TheVariants as status
 use Rattle.object_file.specs.File.{IsEncoding}
 use Rattle.object_file.specs.Options.{header_for}
-use Rattle.fec_base.specs.Outside.{Hearing, Stream}
+use Rattle.fec_base.specs.Outside.{Hearing}
 use Rattle.tool_base.specs.Outside.{Streams}
 use Rattle.tool_commands.specs.EncodeRun.{EncodeDue, Encoded, IsEncodeRun, RefusesEncode}
 use Rattle.tool_base.specs.Ending.{Unwritten}

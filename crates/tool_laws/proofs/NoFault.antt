@@ -1,5 +1,5 @@
 -- The bytes of a packet file have no fault.
-use Rattle.std.proofs.Common.{◌≡◌, ◌⊎◌, inl, inr, ⊎_elim, ℕ, ◌+◌, ◌<◌, ◌≤◌, List, [], ◌∷◌, ◌++◌}
+use Rattle.std.proofs.Common.{◌≡◌, ◌⊎◌, inl, inr, ⊎_elim, ℕ, ◌<◌, List, [], ◌∷◌, ◌++◌}
 use Rattle.std.proofs.Common.{length, drop, All, Option, Some, refl, sym, ap, ◌∙◌, subst, arith}
 use Rattle.std.proofs.Common.{append-nil, append_assoc, length-append}
 use Rattle.std.specs.Io.KnownBytes.{Consumes, IsAtEnd}
@@ -100,7 +100,7 @@ pub packet_taken : PacketIsOne → PacketsAreNoBadPiece → (h : HeaderFields) (
     → Consumes (Some bytes) mid.bytes (header_bytes h ++ spelled h before)
     → StopsBefore h most (length before) mid now (Bad fault) → ⊥
 packet_taken packet_one no_bad h most packets bytes file fault before mid now each taken
-    (piece, next, has, ends) =
+    (piece, next, (has, ends)) =
     let (behind, mid_is, bytes_are) = taken_of bytes mid.bytes
     (header_bytes h ++ spelled h before) taken in
     let (rest, left_is, piece_is) = taken_of behind now.bytes piece

@@ -1,5 +1,5 @@
 -- What runs come to where nothing outside fails.
-use Rattle.std.specs.Prelude.{◌≡◌, ◌⊎◌, ◌≤◌, ℕ, Bool, List, [], ◌++◌, length, Option, Some}
+use Rattle.std.specs.Prelude.{◌≡◌, ◌⊎◌, ◌≤◌, ℕ, Bool, List, [], ◌++◌, length, Option, Some, All}
 use Rattle.std.specs.Io.KnownBytes.{Appends, IsAtEnd, Keeps}
 use Rattle.fec_base.specs.Causes.{Rose}
 use Rattle.sparse_rows.specs.Matrix.{Matrix}
