@@ -61,7 +61,7 @@ module _ (h : HeaderFields) (matrices : List Matrix) (bytes : List ℕ)
       record {
         id = of;
         long = symbol.long;
-        padded = padded_symbol h header matrices bytes ready b inside m k_is word encodes_block
+        padded = padded_symbol h header bytes ready.long ready.padding b inside m k_is word encodes_block
             esi lt of;
       }
 

@@ -18,7 +18,7 @@ use Rattle.packet_file.specs.declared.version.Version.TheVariants.{One, Two}
 use Rattle.packet_file.proofs.Lengths.{last_in_range, some_bytes}
 use Rattle.object_file.specs.Codes.{count_at}
 use Rattle.object_file.specs.File.{block_start, identifier}
-use Rattle.object_file.specs.Made.{IsReadyToWrite, block_source}
+use Rattle.object_file.specs.Made.{block_source}
 use Rattle.object_file.proofs.SourceBlocks.{counts_sum, sizes}
 
 -- both tests hold
@@ -30,8 +30,9 @@ both_hold false y is = absurd (cc)
 abbrev IsZero : List ℕ → Type 0
 IsZero l = l ≡ zero_symbol (length l)
 
-module _ (h : HeaderFields) (header : IsHeader h) (matrices : List Matrix) (bytes : List ℕ)
-    (ready : IsReadyToWrite h matrices bytes) (b : ℕ) (inside : b < length (source_counts h))
+module _ (h : HeaderFields) (header : IsHeader h) (bytes : List ℕ)
+    (room : length bytes ≡ div_ceil h.oti.length h.oti.symbol * h.oti.symbol)
+    (padding : IsZeroFrom h.oti.length bytes) (b : ℕ) (inside : b < length (source_counts h))
     (m : Matrix) (k_is : m.k ≡ count_at h b) (word : List (List ℕ))
     (encoded : IsEncoded m h.oti.symbol (block_source h bytes b) word) (e : ℕ)
     (lt : e < length word) (of : IsIdOf h (identifier b e)) where
@@ -78,7 +79,7 @@ module _ (h : HeaderFields) (header : IsHeader h) (matrices : List Matrix) (byte
       size : length bytes ≡ before + len
       size =
           let one : total ≡ (total - 1) + 1 = omega (arith, ends) in
-          ready.long ∙ ap (λ n. n * len) one ∙ omega (arith, add-mul (total - 1) 1 len)
+          room ∙ ap (λ n. n * len) one ∙ omega (arith, add-mul (total - 1) 1 len)
 
       -- so it is what lies behind the others
       symbol_is_rest : symbol ≡ drop before bytes
@@ -102,7 +103,7 @@ module _ (h : HeaderFields) (header : IsHeader h) (matrices : List Matrix) (byte
           let ends : before + n ≡ h.oti.length = omega (arith, range.0) in
           let rest : drop n symbol ≡ drop h.oti.length bytes = ap (drop n) symbol_is_rest
           ∙ drop-drop n before bytes ∙ ap (λ i. drop i bytes) ends in
-          subst IsZero (sym rest) ready.padding
+          subst IsZero (sym rest) padding
 
   by_last : (last : Bool) → is_last h (identifier b e) ≡ last
       → IsZeroFrom (if last then last_len h.oti else len) symbol

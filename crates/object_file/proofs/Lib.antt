@@ -11,6 +11,7 @@ pub mod Telling
 mod Written
 mod Versions
 mod LastSymbol
+pub mod PaddedObject
 pub mod Codewords
 mod PacketRuns
 mod Refusing

@@ -1,20 +1,16 @@
 -- Each object that is ready has its words, and they make its packet file.
-use Rattle.std.proofs.Common.{◌≡◌, ℕ, zero, suc, ◌+◌, ◌-◌, ◌*◌, ◌<◌, ◌≤◌, List, [], ◌∷◌, ◌++◌}
-use Rattle.std.proofs.Common.{length, get_or, drop, take, replicate, sum_by, All, Contains, Option}
-use Rattle.std.proofs.Common.{Some, refl, sym, ap, ◌∙◌, subst, arith, length-append, length-drop}
+use Rattle.std.proofs.Common.{◌≡◌, ℕ, zero, suc, ◌*◌, ◌<◌, ◌≤◌, List, [], ◌∷◌, ◌++◌}
+use Rattle.std.proofs.Common.{length, get_or, drop, sum_by, All, Contains, Option}
+use Rattle.std.proofs.Common.{Some, refl, sym, ap, ◌∙◌, subst, arith, length-drop}
 use Rattle.std.specs.Int.{div_ceil}
 use Rattle.std.proofs.lemmas.Option.{same_Some}
-use Rattle.std.proofs.lemmas.List.{drop_at, length-replicate}
 use Rattle.std.proofs.lemmas.List.Elements.{All-contains, All-drop, Contains-get_or}
-use Rattle.blocking.proofs.Spread.{ceil_room}
 use Rattle.sparse_rows.specs.Matrix.{Matrix, HasShape, IsCode}
-use Rattle.fec_base.specs.Symbol.{symbols_of, zero_symbol}
 use Rattle.sparse_rows.specs.Codeword.{IsEncoded}
 use Rattle.sparse_rows.proofs.Encode.{extend, source_has}
 use Rattle.sparse_rows.proofs.Symbols.{length_symbols, symbols_are}
 use Rattle.packet_file.specs.Header.{HeaderFields, IsHeader, header_bytes, source_counts}
 use Rattle.packet_file.specs.Packets.{IsZeroFrom}
-use Rattle.packet_file.proofs.Sizes.{fields_have_sizes}
 use Rattle.object_file.specs.BuiltCodes.{AreCodes}
 use Rattle.object_file.specs.Codes.{count_at, header_matrix}
 use Rattle.object_file.specs.File.{AreEncoded, IsEncodedBlock, block_start, encode_report, packets}
@@ -24,7 +20,8 @@ use Rattle.object_file.specs.Options.{header_for}
 use Rattle.tool_commands.specs.EncodeRun.{ReadsObject}
 use Rattle.object_file.specs.declared.making.Made.{Made}
 use Rattle.object_file.specs.declared.options.EncodeOptions.{EncodeOptions}
-use Rattle.object_file.proofs.SourceBlocks.{block_room, block_within, symbols_between}
+use Rattle.object_file.proofs.PaddedObject.{source_between, whole_long, whole_padding}
+use Rattle.object_file.proofs.SourceBlocks.{block_room}
 
 -- one item in front of others
 chosen_first : {X : Type 0} (d : X) (P : ℕ → X → Type 0) (n : ℕ) (x : X) (xs : List X) → P 0 x
@@ -42,18 +39,6 @@ chosen d P (suc n) each =
     let rest = chosen d (λ i. P (suc i)) n (λ i lt. each (suc i) (omega arith)) in
     (first.0 ∷ rest.0, ap suc rest.1, chosen_first d P n first.0 rest.0 first.1 rest.2)
 
--- bytes with so many more behind them
-padded_long : (size : ℕ) (bytes : List ℕ) → length bytes ≤ size → length (padded size bytes) ≡ size
-padded_long size bytes le = length-append bytes (replicate (size - length bytes) 0)
-    ∙ omega (arith, length-replicate {A = ℕ} (size - length bytes) 0)
-
--- and zero behind themselves
-zero_behind : (n size : ℕ) (bytes : List ℕ) → length bytes ≡ n → IsZeroFrom n (padded size bytes)
-zero_behind n size bytes long =
-    let zeros : List ℕ = replicate (size - length bytes) 0 in
-    subst (λ l. l ≡ zero_symbol (length l)) (sym (drop_at bytes zeros n long))
-    (ap zero_symbol (sym (length-replicate {A = ℕ} (size - length bytes) 0)))
-
 module _ (h : HeaderFields) (header : IsHeader h) (draws : Option ℕ) (object : List ℕ)
     (size : h.oti.length ≡ length object) (matrices : List Matrix)
     (codes : AreCodes h draws matrices)
@@ -62,12 +47,8 @@ module _ (h : HeaderFields) (header : IsHeader h) (draws : Option ℕ) (object :
   -- the padded object has all source symbols
   pub ready : IsReadyToWrite h matrices bytes
   ready = record {
-    long = ap length bytes_are ∙ padded_long (div_ceil (length object) h.oti.symbol * h.oti.symbol)
-        object (ceil_room (length object) h.oti.symbol
-        (fields_have_sizes h.codec h.oti header.fields).symbol)
-        ∙ ap (λ (n : ℕ). div_ceil n h.oti.symbol * h.oti.symbol) (sym size);
-    padding = subst (IsZeroFrom h.oti.length) (sym bytes_are) (zero_behind h.oti.length
-        (div_ceil (length object) h.oti.symbol * h.oti.symbol) object (sym size));
+    long = ap length bytes_are ∙ whole_long h header object size;
+    padding = subst (IsZeroFrom h.oti.length) (sym bytes_are) (whole_padding h header object size);
     each = codes.each;
     sized = codes.sized;
   }
@@ -142,16 +123,9 @@ module _ (h : HeaderFields) (header : IsHeader h) (draws : Option ℕ) (object :
             (symbols_are h.oti.symbol (count_at h b) (drop (block_start h b * h.oti.symbol) bytes)
             room (All-drop (λ byte. byte < 256) (block_start h b * h.oti.symbol) bytes small))
 
-        ends : block_start h b + count_at h b ≤ div_ceil (length object) h.oti.symbol
-        ends = subst (λ (n : ℕ). block_start h b + count_at h b ≤ div_ceil n h.oti.symbol) size
-            (block_within h header b inside)
-
         source_is : source ≡ source_block h object b
-        source_is = symbols_between h.oti.symbol (div_ceil (length object) h.oti.symbol)
-            (block_start h b) (count_at h b) bytes ends
-            ∙ ap (λ (l : List ℕ). take (count_at h b)
-            (drop (block_start h b) (symbols_of h.oti.symbol
-            (div_ceil (length object) h.oti.symbol) l))) bytes_are
+        source_is = ap (λ (l : List ℕ). block_source h l b) bytes_are
+            ∙ source_between h header object size b inside
 
     -- the words of all blocks
     pub words : (ws : List (List (List ℕ))) × AreCodewords h matrices bytes ws

@@ -1,5 +1,5 @@
 -- What a `decode` comes to where nothing outside fails.
-use Rattle.std.proofs.Common.{◌≡◌, ◌≢◌, ◌⊎◌, inl, inr, ⊎_elim, ℕ, ◌≤◌, Bool, List, ◌++◌, length}
+use Rattle.std.proofs.Common.{◌≡◌, ◌⊎◌, inl, inr, ⊎_elim, ℕ, ◌≤◌, Bool, List, ◌++◌, length}
 use Rattle.std.proofs.Common.{get_or, Option, Some, refl, sym, ap, ◌∙◌, subst, append_assoc}
 use Rattle.std.specs.Io.KnownBytes.{Appends, Consumes, Keeps}
 use Rattle.std.proofs.lemmas.List.Elements.{All-contains}
@@ -12,7 +12,7 @@ use Rattle.peeling.specs.Laws.{ClosureHolds}
 use Rattle.packet_file.specs.Header.{HeaderFields, IsHeader, header_bytes}
 use Rattle.packet_file.specs.Laws.{HeaderIsOne, PacketIsOne}
 use Rattle.packet_file.specs.Packets.{IsPacketOf, Packet, spelled}
-use Rattle.packet_file.specs.Reading.{FailsAtHeader}
+use Rattle.packet_file.specs.FaultLaws.{PacketsAreNoBadPiece}
 use Rattle.packet_file.specs.OneReading.{IsBadPiece, LacksHeader, Stop, stop_by}
 use Rattle.packet_file.specs.OneReading.Stop.{End, Enough, Failed, Bad}
 use Rattle.packet_file.specs.declared.fault.FileFault.{FileFault}
@@ -20,10 +20,10 @@ use Rattle.packet_file.specs.declared.fault.FileFault.TheVariants.{ReadFault}
 use Rattle.tool_base.specs.declared.status.Status.{Status}
 use Rattle.tool_base.specs.declared.status.Status.TheVariants as status
 use Rattle.object_file.specs.Codes.{IsFirstOver}
-use Rattle.fec_base.specs.Outside.{Hearing}
+use Rattle.fec_base.specs.Outside.{Hearing, stream}
 use Rattle.tool_base.specs.Outside.{Streams}
 use Rattle.tool_commands.specs.Outcomes.{if_done, outcome_status}
-use Rattle.object_file.specs.Received.{IsPacketFile}
+use Rattle.packet_file.specs.Files.{IsPacketFile}
 use Rattle.object_file.specs.Told.{HasCodes, Opens, StandsAt}
 use Rattle.tool_commands.specs.DecodeRun.{Decided, DecodeDue, Decodes, IsDecodeRun}
 use Rattle.object_file.specs.Reception.{FailsBefore, FailsBehind}
@@ -35,7 +35,8 @@ use Rattle.tool_base.specs.declared.causes.Refusal.TheVariants.{Draws, File, Mem
 use Rattle.tool_laws.proofs.DecodedFiles.{all_decode, chosen_right, words_decide}
 use Rattle.tool_laws.proofs.NoFault.{header_taken, packet_taken}
 use Rattle.tool_laws.proofs.OneDecoding.{taken_of}
-use Rattle.tool_laws.proofs.OneReading.{length_header, same_fronts}
+use Rattle.packet_file.proofs.OneFile.{same_fronts}
+use Rattle.tool_laws.proofs.HeaderLength.{length_header}
 use Rattle.tool_laws.proofs.Uncut.{due_or_memory, kept_of_none}
 
 -- the blocks came out, and what is due of them was written and told
@@ -47,7 +48,8 @@ ComesOut limit early most before after watch watch_now ended =
 
 -- ---- a packet file isn't refused
 
-module _ (header_one : HeaderIsOne) (packet_one : PacketIsOne) (h : HeaderFields)
+module _ (header_one : HeaderIsOne) (packet_one : PacketIsOne)
+    (no_bad : PacketsAreNoBadPiece) (h : HeaderFields)
     (packets : List Packet) (bytes : List ℕ) (limit : Option ℕ) (early : Bool) (most : ℕ)
     (before after : Streams) (watch watch_now : Hearing)
     (file : IsPacketFile h most packets bytes) (known : before.input.bytes ≡ Some bytes) (code : ℕ
@@ -59,7 +61,7 @@ module _ (header_one : HeaderIsOne) (packet_one : PacketIsOne) (h : HeaderFields
   own_header other mid header taken =
       let (rest, mid_is, bytes_are) = taken_of bytes mid (header_bytes other)
       (subst (λ (l : Option (List ℕ)). Consumes l mid (header_bytes other)) known taken) in
-      let parts = same_fronts (header_bytes other) (header_bytes h) rest (spelled packets)
+      let parts = same_fronts (header_bytes other) (header_bytes h) rest (spelled h packets)
       (length_header other ∙ sym (length_header h)) (sym bytes_are ∙ file.bytes_are) in
       header_one other h header.bits file.header.bits parts.0
 
@@ -67,10 +69,10 @@ module _ (header_one : HeaderIsOne) (packet_one : PacketIsOne) (h : HeaderFields
   not_lacking End lacks = absurd lacks
   not_lacking Enough lacks = absurd lacks
   not_lacking Failed lacks = clean.reads lacks.0
-  not_lacking (Bad fault) lacks = header_taken header_one h file.header fault (spelled packets)
-      after.input.bytes
-      (subst (λ (l : Option (List ℕ)). FailsAtHeader fault l after.input.bytes) (known
-      ∙ ap (λ (l : List ℕ). Some l) file.bytes_are) lacks)
+  not_lacking (Bad fault) lacks = header_taken header_one h file.header fault (spelled h packets)
+      before.input.faults after.input
+      (subst (λ (l : Option (List ℕ)). LacksHeader (stream l before.input.faults) after.input
+      (Bad fault)) (known ∙ ap (λ (l : List ℕ). Some l) file.bytes_are) lacks)
 
   not_before : (fault : FileFault) → FailsBefore before.input after.input watch watch_now fault → ⊥
   not_before fault (kept, lacks) = not_lacking (stop_by fault) lacks
@@ -89,20 +91,19 @@ module _ (header_one : HeaderIsOne) (packet_one : PacketIsOne) (h : HeaderFields
       let (behind, mid_is, bytes_are) = taken_of bytes mid (header_bytes other)
       (subst (λ (l : Option (List ℕ)). Consumes l mid (header_bytes other)) known opens.taken)
       in
-      let (rest, left_is, behind_is) = taken_of behind after.input.bytes (spelled came ++ piece)
-      (subst (λ (l : Option (List ℕ)). Consumes l after.input.bytes (spelled came ++ piece))
+      let (rest, left_is, behind_is) = taken_of behind after.input.bytes (spelled other came ++ piece)
+      (subst (λ (l : Option (List ℕ)). Consumes l after.input.bytes (spelled other came ++ piece))
       mid_is stands.taken) in
-      let taken : bytes ≡ (header_bytes other ++ spelled came) ++ (piece ++ rest) =
+      let taken : bytes ≡ (header_bytes other ++ spelled other came) ++ (piece ++ rest) =
       bytes_are ∙ ap (λ (l : List ℕ). header_bytes other ++ l) (behind_is
-      ∙ append_assoc (spelled came) piece rest)
-      ∙ sym (append_assoc (header_bytes other) (spelled came) (piece ++ rest)) in
-      packet_taken packet_one other most packets bytes file_now fault came (Some (piece ++ rest))
-      after.input.bytes stands.packets_are.each taken (
+      ∙ append_assoc (spelled other came) piece rest)
+      ∙ sym (append_assoc (header_bytes other) (spelled other came) (piece ++ rest)) in
+      packet_taken packet_one no_bad other most packets bytes file_now fault came
+      (stream (Some (piece ++ rest)) 0) after.input stands.packets_are.each taken (
         piece,
         subst (λ (l : Option (List ℕ)). Consumes (Some (piece ++ rest)) l piece) (sym left_is)
             refl,
-        bad.0,
-        bad.1,
+        bad,
       )
 
   not_behind : (fault : FileFault) → FailsBehind limit early most before.input after.input watch
@@ -140,14 +141,15 @@ module _ (header_one : HeaderIsOne) (packet_one : PacketIsOne) (h : HeaderFields
 
 -- ---- by packets that are chosen from an object's file
 
-module _ (header_one : HeaderIsOne) (packet_one : PacketIsOne) (h : HeaderFields)
+module _ (header_one : HeaderIsOne) (packet_one : PacketIsOne)
+    (no_bad : PacketsAreNoBadPiece) (h : HeaderFields)
     (draws limit : Option ℕ) (object : List ℕ) (sent came : List Packet) (early : Bool) (most : ℕ)
     (before after : Streams) (watch watch_now : Hearing) (ended : Status)
     (are_sent : AreSent h draws object sent) (chosen : AreAmong came sent)
     (few : length came ≤ most)
-    (run : IsCleanDecode h (header_bytes h ++ spelled came) limit early most before after watch
+    (run : IsCleanDecode h (header_bytes h ++ spelled h came) limit early most before after watch
     watch_now ended) where
-  came_file : IsPacketFile h most came (header_bytes h ++ spelled came)
+  came_file : IsPacketFile h most came (header_bytes h ++ spelled h came)
   came_file = record {
     header = are_sent.encoding.header;
     each = λ k d lt. All-contains (IsPacketOf h) sent (get_or came k d) are_sent.packets_are.each
@@ -159,7 +161,7 @@ module _ (header_one : HeaderIsOne) (packet_one : PacketIsOne) (h : HeaderFields
   -- a run that came out decodes these bytes
   bytes_decode : (status_now : Status) (d : Decided limit early most before.input after.input watch
       watch_now status_now)
-      → Decodes limit early most (Some (header_bytes h ++ spelled came)) after.input.bytes
+      → Decodes limit early most (Some (header_bytes h ++ spelled h came)) after.input.bytes
       watch.told watch_now.told d.outcomes d.object d.text
   bytes_decode status_now d = subst (λ (l : Option (List ℕ)). Decodes limit early most l
       after.input.bytes watch.told watch_now.told d.outcomes d.object d.text) run.bytes_are
@@ -214,7 +216,7 @@ module _ (header_one : HeaderIsOne) (packet_one : PacketIsOne) (h : HeaderFields
     chosen_decoded = ⊎_elim
         (λ (memory : ended ≡ status.Memory). inl memory)
         (λ (d : ComesOut limit early most before after watch watch_now ended). inr (written d))
-        (decided header_one packet_one h came (header_bytes h ++ spelled came) limit early most
+        (decided header_one packet_one no_bad h came (header_bytes h ++ spelled h came) limit early most
         before after watch watch_now came_file run.bytes_are run.code run.codes run.clean
         run.heard ended run.run)
 
@@ -231,6 +233,6 @@ module _ (header_one : HeaderIsOne) (packet_one : PacketIsOne) (h : HeaderFields
       (bytes_decode ended d) all holds same source in
       let is : ended ≡ status.Done = sym d.status ∙ whole.0 in
       inr (is, writes_object is c))
-      (decided header_one packet_one h came (header_bytes h ++ spelled came) limit early most before
+      (decided header_one packet_one no_bad h came (header_bytes h ++ spelled h came) limit early most before
       after watch watch_now came_file run.bytes_are run.code run.codes run.clean run.heard ended
       run.run)

@@ -9,6 +9,7 @@ use Rattle.packet_file.specs.declared.fault.FileFault.TheVariants.{ShortHeader, 
 use Rattle.packet_file.specs.declared.fault.FileFault.TheVariants.{BadVersion, BadCodec}
 use Rattle.packet_file.specs.declared.fault.FileFault.TheVariants.{BadReserved, Field, ShortPacket}
 use Rattle.packet_file.specs.declared.fault.FileFault.TheVariants.{NoSuchBlock, NoSuchSymbol}
+use Rattle.packet_file.specs.declared.fault.FileFault.TheVariants.{BadLength, BadPadding}
 use Rattle.packet_file.specs.declared.fault.FileFault.TheVariants.{TooLarge, TooManyBlocks}
 use Rattle.packet_file.specs.declared.fault.FileFault.TheVariants.{TooManyPackets, ReadFault}
 use Rattle.packet_file.specs.declared.fault.Limit.TheVariants.{Length}
@@ -96,6 +97,10 @@ module _ (o : EncodeOptions) (object : List ℕ) (code : ℕ → Matrix) (before
       not_large bytes (NoSuchBlock index sbn) taken large
   file_refused (NoSuchSymbol index esi) (bytes, taken, large) =
       not_large bytes (NoSuchSymbol index esi) taken large
+  file_refused (BadLength index len) (bytes, taken, large) =
+      not_large bytes (BadLength index len) taken large
+  file_refused (BadPadding index) (bytes, taken, large) =
+      not_large bytes (BadPadding index) taken large
   file_refused (TooLarge limit) (bytes, taken, large) = not_large bytes (TooLarge limit) taken large
   file_refused TooManyBlocks (bytes, taken, large) = not_large bytes TooManyBlocks taken large
   file_refused TooManyPackets (bytes, taken, large) = not_large bytes TooManyPackets taken large

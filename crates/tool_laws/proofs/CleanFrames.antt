@@ -1,12 +1,12 @@
 -- What a `frame` and an `unframe` come to where nothing outside fails.
-use Rattle.std.proofs.Common.{◌≡◌, ◌⊎◌, inl, inr, ⊎_elim, ℕ, List, [], length}
+use Rattle.std.proofs.Common.{◌≡◌, inl, inr, ⊎_elim, ℕ, List, [], length}
 use Rattle.std.proofs.Common.{Option, Some, None, refl, sym, ap, ◌∙◌, subst}
 use Rattle.std.specs.Io.KnownBytes.{Appends}
-use Rattle.packet_file.specs.declared.fault.FileFault.{FileFault}
 use Rattle.packet_file.specs.declared.fault.FileFault.TheVariants.{ShortHeader, BadMagic}
 use Rattle.packet_file.specs.declared.fault.FileFault.TheVariants.{BadVersion, BadCodec}
 use Rattle.packet_file.specs.declared.fault.FileFault.TheVariants.{BadReserved, Field, ShortPacket}
 use Rattle.packet_file.specs.declared.fault.FileFault.TheVariants.{NoSuchBlock, NoSuchSymbol}
+use Rattle.packet_file.specs.declared.fault.FileFault.TheVariants.{BadLength, BadPadding}
 use Rattle.packet_file.specs.declared.fault.FileFault.TheVariants.{TooLarge, TooManyBlocks}
 use Rattle.packet_file.specs.declared.fault.FileFault.TheVariants.{TooManyPackets, ReadFault}
 use Rattle.adu_frames.specs.Frames.{Datagram}
@@ -51,6 +51,8 @@ module _ (no_fault : DatagramsHaveNoFault) (passed : DatagramsArePassed) (way : 
   not_refused (File (ShortPacket index have)) out refuses = absurd refuses
   not_refused (File (NoSuchBlock index sbn)) out refuses = absurd refuses
   not_refused (File (NoSuchSymbol index esi)) out refuses = absurd refuses
+  not_refused (File (BadLength index len)) out refuses = absurd refuses
+  not_refused (File (BadPadding index)) out refuses = absurd refuses
   not_refused (File (TooLarge limit)) out refuses = absurd refuses
   not_refused (File TooManyBlocks) out refuses = absurd refuses
   not_refused (File TooManyPackets) out refuses = absurd refuses

@@ -18,6 +18,7 @@ use Rattle.fec_session.specs.declared.outcome.Outcome.{Outcome}
 use Rattle.packet_file.specs.Header.{HeaderFields, IsHeader, header_bytes}
 use Rattle.packet_file.specs.Laws.{HeaderIsOne, PacketIsOne}
 use Rattle.packet_file.specs.Packets.{IsPacketOf, Packet, spelled}
+use Rattle.packet_file.proofs.OneFile.{same_fronts}
 use Rattle.tool_base.specs.declared.status.Status.TheVariants as status
 use Rattle.object_file.specs.File.{IsEncoding, packets}
 use Rattle.object_file.specs.Received.{arrivals_of}
@@ -30,7 +31,7 @@ use Rattle.tool_laws.proofs.ComesBack.{all_peeled, come_back, decided_by_null_wo
 use Rattle.tool_laws.proofs.ComesBack.{peeled_give_back, whole_peeled}
 use Rattle.tool_laws.proofs.NoFault.{front_of, no_packets}
 use Rattle.tool_laws.proofs.OneDecoding.{GoesOn, IsRead, read_by}
-use Rattle.tool_laws.proofs.OneReading.{length_header, same_fronts}
+use Rattle.tool_laws.proofs.HeaderLength.{length_header}
 use Rattle.tool_laws.proofs.SentPackets.{list_of_file, list_spelled, packet_list}
 
 -- a position that came is one that came where more packets came
@@ -64,18 +65,18 @@ module _ (header_one : HeaderIsOne) (packet_one : PacketIsOne) (limit : Option �
   -- packets of a file that a run takes are a front of them
   takes_front : (h : HeaderFields) (code : ℕ → Matrix) (came packets : List Packet)
       (left : Option (List ℕ)) → All (IsPacketOf h) came
-      → (read : IsRead limit early most (header_bytes h ++ spelled came) left h code packets)
-      → GoesOn packets came read.rest []
+      → (read : IsRead limit early most (header_bytes h ++ spelled h came) left h code packets)
+      → GoesOn h packets came read.rest []
   takes_front h code came packets left each read =
       front_of packet_one h read.header packets came read.rest read.taken.each each
-      (append_cancel_left (header_bytes h) (spelled packets ++ read.rest) (spelled came)
+      (append_cancel_left (header_bytes h) (spelled h packets ++ read.rest) (spelled h came)
       (sym read.bytes_are))
 
   over_by : (h : HeaderFields) (code : ℕ → Matrix) (packets tail : List Packet) (rest : List ℕ)
-      → IsOver early (Some rest) h code packets → rest ≡ spelled tail ++ []
+      → IsOver early (Some rest) h code packets → rest ≡ spelled h tail ++ []
       → (tail ≡ []) ⊎ IsWhole h code packets
   over_by h code packets tail rest over is = ⊎_elim
-      (λ (end : rest ≡ []). inl (no_packets tail [] (sym is ∙ end)))
+      (λ (end : rest ≡ []). inl (no_packets h tail [] (sym is ∙ end)))
       (λ (whole : (early ≡ true) × IsWhole h code packets). inr whole.1)
       over
 
@@ -83,15 +84,15 @@ module _ (header_one : HeaderIsOne) (packet_one : PacketIsOne) (limit : Option �
   decoded_by : (h : HeaderFields) → IsHeader h → (came : List Packet) → All (IsPacketOf h) came
       → (left : Option (List ℕ)) (told told_now : Option (List Telling)) (outcomes : List Outcome)
       (made report : List ℕ)
-      → Decodes limit early most (Some (header_bytes h ++ spelled came)) left told told_now outcomes
+      → Decodes limit early most (Some (header_bytes h ++ spelled h came)) left told told_now outcomes
       made report → IsDecoded limit early h came outcomes made
   decoded_by h header came each left told told_now outcomes made report d =
-      let bytes : List ℕ = header_bytes h ++ spelled came in
+      let bytes : List ℕ = header_bytes h ++ spelled h came in
       let first : IsRead limit early most bytes left d.header d.code d.packets =
       read_by limit early most bytes d.mid left d.header d.code d.packets d.opens
       d.stands.packets_are d.stands.taken d.over in
       let parts = same_fronts (header_bytes d.header) (header_bytes h)
-      (spelled d.packets ++ first.rest) (spelled came) (length_header d.header
+      (spelled d.header d.packets ++ first.rest) (spelled h came) (length_header d.header
       ∙ sym (length_header h)) (sym first.bytes_are) in
       let is : d.header ≡ h = header_one d.header h first.header.bits header.bits parts.0 in
       let out : ComeOutBy d.header limit d.packets outcomes = record {
@@ -121,7 +122,7 @@ module _ (header_one : HeaderIsOne) (packet_one : PacketIsOne) (limit : Option �
       (are_sent : AreSent h draws object sent) (chosen : AreAmong came sent)
       (left : Option (List ℕ)) (told told_now : Option (List Telling)) (outcomes : List Outcome)
       (made report : List ℕ)
-      (decodes : Decodes limit early most (Some (header_bytes h ++ spelled came)) left told told_now
+      (decodes : Decodes limit early most (Some (header_bytes h ++ spelled h came)) left told told_now
       outcomes made report) where
     of_file : All (IsPacketOf h) came
     of_file k d lt = All-contains (IsPacketOf h) sent (get_or came k d) are_sent.packets_are.each
@@ -215,10 +216,10 @@ pub file_sent : HeaderIsOne → PacketIsOne
     → (h : HeaderFields) (draws : Option ℕ) (object file text : List ℕ)
     → h.oti.length ≡ length object → (encoding : IsEncoding h draws object file text)
     → AreSent h draws object (packet_list 0 encoding.words)
-    × (file ≡ header_bytes h ++ spelled (packet_list 0 encoding.words))
+    × (file ≡ header_bytes h ++ spelled h (packet_list 0 encoding.words))
 file_sent header_one packet_one h draws object file text long encoding =
-    let bytes : file ≡ header_bytes h ++ spelled (packet_list 0 encoding.words) = encoding.file_is
-    ∙ ap (λ (l : List ℕ). header_bytes h ++ l) (sym (list_spelled 0 encoding.words)) in (
+    let bytes : file ≡ header_bytes h ++ spelled h (packet_list 0 encoding.words) = encoding.file_is
+    ∙ ap (λ (l : List ℕ). header_bytes h ++ l) (sym (list_spelled h 0 encoding.words)) in (
       record {
         long = long;
         file = file;
@@ -227,8 +228,8 @@ file_sent header_one packet_one h draws object file text long encoding =
         encoding = encoding;
         packets_are = record {
           header = encoding.header;
-          each = list_of_file header_one packet_one h draws object encoding.words encoding.header
-              encoding.encoded;
+          each = list_of_file header_one packet_one h draws object encoding.words long
+              encoding.header encoding.encoded;
           few = omega arith;
           bytes_are = bytes;
         };

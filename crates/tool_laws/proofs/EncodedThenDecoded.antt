@@ -1,6 +1,6 @@
 -- A `decode` of what an `encode` wrote.
 use Rattle.std.proofs.Common.{◌≡◌, ℕ, ◌≤◌, Bool, List, [], length, Option, Some, refl, sym, subst}
-use Rattle.std.proofs.Common.{⊎_elim, arith}
+use Rattle.std.proofs.Common.{arith}
 use Rattle.std.specs.Io.KnownBytes.{Appends, Consumes}
 use Rattle.std.proofs.lemmas.List.Elements.{All-contains_itself}
 use Rattle.sparse_rows.specs.Laws.{NullWordHoldsSource}
@@ -8,16 +8,17 @@ use Rattle.null_witness.specs.Laws.{ClosureHasSameNullWords}
 use Rattle.peeling.specs.Laws.{ClosureHolds}
 use Rattle.packet_file.specs.Header.{HeaderFields, total_symbols}
 use Rattle.packet_file.specs.Laws.{HeaderIsOne, PacketIsOne}
+use Rattle.packet_file.specs.FaultLaws.{PacketsAreNoBadPiece}
 use Rattle.packet_file.specs.Packets.{Packet}
 use Rattle.tool_base.specs.declared.status.Status.{Status}
 use Rattle.tool_base.specs.declared.status.Status.TheVariants as status
 use Rattle.object_file.specs.File.{IsEncoding}
 use Rattle.object_file.specs.Options.{header_for}
-use Rattle.fec_base.specs.Outside.{Hearing, Stream}
+use Rattle.fec_base.specs.Outside.{Hearing}
 use Rattle.tool_base.specs.Outside.{Streams}
 use Rattle.tool_commands.specs.EncodeRun.{EncodeDue, Encoded, IsEncodeRun, RefusesEncode}
 use Rattle.tool_base.specs.Ending.{Unwritten}
-use Rattle.object_file.specs.Received.{IsPacketFile}
+use Rattle.packet_file.specs.Files.{IsPacketFile}
 use Rattle.tool_laws.specs.RoundTrip.{AreSent}
 use Rattle.tool_laws.specs.RunLaws.{IsCleanDecode, OrMemory}
 use Rattle.object_file.specs.declared.options.EncodeOptions.{EncodeOptions}
@@ -56,7 +57,8 @@ encoding_of o first last object file encodes input output made =
           text) object_is e.encoding),
     )
 
-module _ (header_one : HeaderIsOne) (packet_one : PacketIsOne) (holds : ClosureHolds)
+module _ (header_one : HeaderIsOne) (packet_one : PacketIsOne) (no_bad : PacketsAreNoBadPiece)
+    (holds : ClosureHolds)
     (same : ClosureHasSameNullWords) (source : NullWordHoldsSource) where
   -- the file of an object decodes to it
   file_decoded : (h : HeaderFields) (draws limit : Option ℕ) (object file text : List ℕ)
@@ -73,11 +75,11 @@ module _ (header_one : HeaderIsOne) (packet_one : PacketIsOne) (holds : ClosureH
       let few : length sent ≤ most =
       omega (
         arith,
-        list_long header_one packet_one h draws object encoding.words
+        list_long header_one packet_one h draws object encoding.words long
             encoding.header encoding.encoded,
         enough,
       ) in
-      all_decoded header_one packet_one h draws limit object sent sent early most before after watch
+      all_decoded header_one packet_one no_bad h draws limit object sent sent early most before after watch
       watch_now ended are_sent.0 (All-contains_itself sent) few
       (subst (λ (bytes : List ℕ). IsCleanDecode h bytes limit early most before after watch
       watch_now ended) are_sent.1 run) holds same source (All-contains_itself sent)
@@ -123,7 +125,7 @@ encoded_file header_one packet_one o first last object file encodes input output
       },
       omega (
         arith,
-        list_long header_one packet_one h o.shape.draws object encoding.words encoding.header
+        list_long header_one packet_one h o.shape.draws object encoding.words refl encoding.header
             encoding.encoded,
       ),
     )

@@ -5,7 +5,7 @@ mod OneEncoding
 mod OneFirstNullWord
 mod OneOutcome
 mod OnePerf
-mod OneReading
+mod HeaderLength
 mod SentPackets
 mod SentSymbols
 mod ToldBytes

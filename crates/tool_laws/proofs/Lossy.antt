@@ -10,6 +10,7 @@ use Rattle.null_witness.specs.Laws.{ClosureHasSameNullWords, NullWordOfSubset}
 use Rattle.null_witness.specs.Laws.{UndeterminedByNullWord}
 use Rattle.object_file.specs.Options.{header_for}
 use Rattle.packet_file.specs.Header.{HeaderFields, header_bytes}
+use Rattle.packet_file.specs.FaultLaws.{PacketsAreNoBadPiece}
 use Rattle.packet_file.specs.Laws.{HeaderIsOne, PacketIsOne}
 use Rattle.packet_file.specs.Packets.{IsPacketOf, Packet, packet_bytes, spelled}
 use Rattle.packet_pass.specs.Pass.{kept_in, texts_from}
@@ -23,7 +24,7 @@ use Rattle.tool_laws.specs.RunLaws.{IsCleanDecode}
 use Rattle.tool_laws.proofs.CleanDecodes.{chosen_decoded}
 use Rattle.tool_laws.proofs.EncodedThenDecoded.{appended_all, encoded_file}
 use Rattle.tool_laws.proofs.OneDecoding.{taken_all}
-use Rattle.tool_laws.proofs.OneReading.{reading_one}
+use Rattle.packet_file.proofs.OneFile.{file_one}
 use Rattle.tool_laws.proofs.Uncut.{done_due}
 
 -- one item in front
@@ -38,7 +39,7 @@ contains_more x y xs (k, lt, is) = (suc k, omega arith, is)
 record Kept (h : HeaderFields) (loss : LossKind) (seed first : ℕ) (packets : List Packet) : Type 0
   where
     pub kept : List Packet
-    pub text : texts_from (Lose loss seed) first packets ≡ spelled kept
+    pub text : texts_from (Lose loss seed) h first packets ≡ spelled h kept
     pub few : length kept ≤ length packets
     pub among : All (Contains packets) kept
     pub each : All (IsPacketOf h) packets → All (IsPacketOf h) kept
@@ -55,9 +56,9 @@ module _ (h : HeaderFields) (loss : LossKind) (seed first : ℕ) (p : Packet) (p
   keep_one : (b : Bool) → keeps loss seed first ≡ b → Kept h loss seed first (p ∷ packets)
   keep_one true is = record {
     kept = p ∷ rest.kept;
-    text = ap (λ keep. kept_in keep (packet_bytes p.0 p.1)
-        ++ texts_from (Lose loss seed) (first + 1) packets) is
-        ∙ ap (λ l. packet_bytes p.0 p.1 ++ l) rest.text;
+    text = ap (λ keep. kept_in keep (packet_bytes h p)
+        ++ texts_from (Lose loss seed) h (first + 1) packets) is
+        ∙ ap (λ l. packet_bytes h p ++ l) rest.text;
     few = omega (arith, rest.few);
     among = all_more (Contains (p ∷ packets)) p rest.kept (0, omega arith, refl) wider;
     each = λ all. all_more (IsPacketOf h) p rest.kept (all 0 p (omega arith))
@@ -65,8 +66,8 @@ module _ (h : HeaderFields) (loss : LossKind) (seed first : ℕ) (p : Packet) (p
   }
   keep_one false is = record {
     kept = rest.kept;
-    text = ap (λ keep. kept_in keep (packet_bytes p.0 p.1)
-        ++ texts_from (Lose loss seed) (first + 1) packets) is ∙ rest.text;
+    text = ap (λ keep. kept_in keep (packet_bytes h p)
+        ++ texts_from (Lose loss seed) h (first + 1) packets) is ∙ rest.text;
     few = omega (arith, rest.few);
     among = wider;
     each = λ all. rest.each (behind all);
@@ -91,7 +92,7 @@ loss_leaves loss seed most before after bytes left run known none made =
     (RefusesPass (Lose loss seed) most before.input after.input) out text is_due in
     let read = w.reads.reads in
     let kept = keep_from w.header loss seed 0 w.packets in
-    let front : List ℕ = header_bytes w.header ++ (spelled w.packets ++ read.piece) in
+    let front : List ℕ = header_bytes w.header ++ (spelled w.header w.packets ++ read.piece) in
     let all : front ≡ bytes = taken_all bytes front after.input.bytes
     (subst (λ (l : Option (List ℕ)). Consumes l after.input.bytes front) known read.taken)
     read.stopped.1 in (
@@ -103,8 +104,8 @@ loss_leaves loss seed most before after bytes left run known none made =
         each = read.each;
         few = read.few;
         bytes_are = sym all ∙ ap (λ (l : List ℕ). header_bytes w.header ++ l)
-            (ap (λ (l : List ℕ). spelled w.packets ++ l) read.stopped.0
-            ∙ append-nil (spelled w.packets));
+            (ap (λ (l : List ℕ). spelled w.header w.packets ++ l) read.stopped.0
+            ∙ append-nil (spelled w.header w.packets));
       },
       record {
         header = w.reads.header;
@@ -117,7 +118,8 @@ loss_leaves loss seed most before after bytes left run known none made =
       kept.few,
     )
 
-module _ (header_one : HeaderIsOne) (packet_one : PacketIsOne) (law : UndeterminedByNullWord)
+module _ (header_one : HeaderIsOne) (packet_one : PacketIsOne) (no_bad : PacketsAreNoBadPiece)
+    (law : UndeterminedByNullWord)
     (fewer : NullWordOfSubset) (same : ClosureHasSameNullWords) (source : NullWordHoldsSource)
   where
     pub never_wrong : LostIsNeverDecodedWrong
@@ -129,11 +131,11 @@ module _ (header_one : HeaderIsOne) (packet_one : PacketIsOne) (law : Undetermin
         let (h, packets_read, kept, whole, rest, among, fewer_kept) = loss_leaves loss seed read
         sent came file
         left loses taken empty lost in
-        let (own, packets_are) = reading_one header_one packet_one h (header_for o (length object))
+        let (own, packets_are) = file_one header_one packet_one h (header_for o (length object))
         read (length packets) packets_read packets file whole file_is in
         let chosen : AreAmong kept packets = subst (AreAmong kept) packets_are among in
-        let left_is : left ≡ header_bytes (header_for o (length object)) ++ spelled kept =
-        rest.bytes_are ∙ ap (λ (k : HeaderFields). header_bytes k ++ spelled kept) own in
+        let left_is : left ≡ header_bytes (header_for o (length object)) ++ spelled (header_for o (length object)) kept =
+        rest.bytes_are ∙ ap (λ (k : HeaderFields). header_bytes k ++ spelled k kept) own in
         let clean = subst (λ (bytes : List ℕ). IsCleanDecode (header_for o (length object)) bytes
         limit early most before after watch watch_now ended) left_is run in
         ⊎_elim
@@ -144,7 +146,7 @@ module _ (header_one : HeaderIsOne) (packet_one : PacketIsOne) (law : Undetermin
         (λ (w : (ended ≡ status.Undetermined) × Keeps before.output.bytes after.output.bytes
         × (¬ LackNullWords (header_for o (length object)) o.shape.draws kept)). inr (w.0, w.1))
         out))
-        (chosen_decoded header_one packet_one (header_for o (length object)) o.shape.draws limit
+        (chosen_decoded header_one packet_one no_bad (header_for o (length object)) o.shape.draws limit
         object packets kept early most before after watch watch_now ended are_sent chosen
         (omega (arith, fewer_kept, ap length packets_are, few, enough)) clean
         law fewer same source)

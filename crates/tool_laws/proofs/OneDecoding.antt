@@ -21,7 +21,7 @@ use Rattle.fec_session.specs.declared.outcome.Outcome.TheVariants as outcome
 use Rattle.packet_file.specs.Header.{HeaderFields, IsHeader, header_bytes, source_counts}
 use Rattle.packet_file.specs.Laws.{HeaderIsOne, PacketIsOne}
 use Rattle.packet_file.specs.Packets.{IsPacketOf, Packet, packet_bytes, spelled}
-use Rattle.packet_file.proofs.Limits.{ids_fit}
+use Rattle.packet_file.proofs.OneFile.{same_fronts}
 use Rattle.object_file.specs.Codes.{count_at}
 use Rattle.sparse_rows.specs.Determined.{HoldsSource}
 use Rattle.fec_session.specs.Determines.{Determines}
@@ -31,7 +31,7 @@ use Rattle.tool_commands.specs.Outcomes.{decode_report, is_contradicted, object_
 use Rattle.tool_laws.specs.Laws.{told_at}
 use Rattle.object_file.specs.Told.{AreTaken, HasCodes, IsToldBy, IsOver, IsWhole, Opens, new_places}
 use Rattle.object_file.specs.Told.{told_places}
-use Rattle.tool_laws.proofs.OneReading.{same_fronts, length_header, length_packet, packet}
+use Rattle.tool_laws.proofs.HeaderLength.{length_header}
 use Rattle.tool_laws.proofs.DrawLimits.{matrix_one}
 use Rattle.tool_laws.proofs.OneOutcome.{outcome_one}
 use Rattle.tool_laws.proofs.ToldBytes.{tellings_one}
@@ -56,36 +56,29 @@ taken_all bytes front now taken ended =
 -- ---- packets of the same bytes
 
 -- a list goes on where the other ends, and so do the bytes behind it
-abbrev pub GoesOn : List Packet → List Packet → List ℕ → List ℕ → Type 0
-GoesOn packets others rest more = (tail : List Packet) × (others ≡ packets ++ tail)
-    × (rest ≡ spelled tail ++ more)
+abbrev pub GoesOn : HeaderFields → List Packet → List Packet → List ℕ → List ℕ → Type 0
+GoesOn h packets others rest more = (tail : List Packet) × (others ≡ packets ++ tail)
+    × (rest ≡ spelled h tail ++ more)
 
 module _ (packet_one : PacketIsOne) (h : HeaderFields) (header : IsHeader h) where
   -- of packets of a file that begin the same bytes one list goes on where the other ends
   pub one_front : (packets others : List Packet) (rest more : List ℕ) → All (IsPacketOf h) packets
-      → All (IsPacketOf h) others → spelled packets ++ rest ≡ spelled others ++ more
-      → GoesOn packets others rest more ⊎ GoesOn others packets more rest
+      → All (IsPacketOf h) others → spelled h packets ++ rest ≡ spelled h others ++ more
+      → GoesOn h packets others rest more ⊎ GoesOn h others packets more rest
   one_front [] others rest more each other same = inl (others, refl, same)
   one_front (p ∷ packets) [] rest more each other same = inr (p ∷ packets, refl, sym same)
   one_front (p ∷ packets) (q ∷ others) rest more each other same =
-      let mine : IsPacketOf h p = All-head (IsPacketOf h) p packets each in
-      let its : IsPacketOf h q = All-head (IsPacketOf h) q others other in
-      let long : length (packet_bytes p.0 p.1) ≡ length (packet_bytes q.0 q.1) =
-      omega (arith, length_packet p.0 p.1, length_packet q.0 q.1, mine.long, its.long) in
-      let whole : packet_bytes p.0 p.1 ++ (spelled packets ++ rest) ≡ packet_bytes q.0 q.1
-      ++ (spelled others ++ more) =
-      sym (append_assoc (packet_bytes p.0 p.1) (spelled packets) rest) ∙ same
-      ∙ append_assoc (packet_bytes q.0 q.1) (spelled others) more in
-      let parts = same_fronts (packet_bytes p.0 p.1) (packet_bytes q.0 q.1)
-      (spelled packets ++ rest) (spelled others ++ more) long whole in
-      let own : (p.0 ≡ q.0) × (p.1 ≡ q.1) = packet_one p.0 q.0 p.1 q.1
-      (ids_fit h p.0 header mine.id) (ids_fit h q.0 header its.id) parts.0 in
-      let alike : p ≡ q = ap₂ packet own.0 own.1 in
+      let whole : packet_bytes h p ++ (spelled h packets ++ rest) ≡ packet_bytes h q
+      ++ (spelled h others ++ more) =
+      sym (append_assoc (packet_bytes h p) (spelled h packets) rest) ∙ same
+      ∙ append_assoc (packet_bytes h q) (spelled h others) more in
+      let parts = packet_one h p q (spelled h packets ++ rest) (spelled h others ++ more) header
+      (All-head (IsPacketOf h) p packets each) (All-head (IsPacketOf h) q others other) whole in
       ⊎_elim
-      (λ (g : GoesOn packets others rest more). inl
-      (g.0, ap₂ (λ (a : Packet) (l : List Packet). a ∷ l) (sym alike) g.1, g.2))
-      (λ (g : GoesOn others packets more rest). inr
-      (g.0, ap₂ (λ (a : Packet) (l : List Packet). a ∷ l) alike g.1, g.2))
+      (λ (g : GoesOn h packets others rest more). inl
+      (g.0, ap₂ (λ (a : Packet) (l : List Packet). a ∷ l) (sym parts.0) g.1, g.2))
+      (λ (g : GoesOn h others packets more rest). inr
+      (g.0, ap₂ (λ (a : Packet) (l : List Packet). a ∷ l) parts.0 g.1, g.2))
       (one_front packets others rest more (All-tail (IsPacketOf h) p packets each)
       (All-tail (IsPacketOf h) q others other) parts.1)
 
@@ -100,20 +93,18 @@ codes_one h draws limit code other first second b lt = matrix_one h limit draws 
 
 module _ (h : HeaderFields) (early : Bool) (most : ℕ) (code other : ℕ → Matrix) (codes : (b : ℕ)
     → b < length (source_counts h) → code b ≡ other b) where
+  -- packets have bytes
+  no_bytes : (p : Packet) (tail : List Packet) (more : List ℕ)
+      → spelled h (p ∷ tail) ++ more ≡ [] → ⊥
+  no_bytes p tail more none = cc none
+
   -- where one run is over the other doesn't go on
   pub no_more : (packets others tail : List Packet) (rest more : List ℕ)
       → IsOver early (Some rest) h code packets → AreTaken h other early most others
-      → others ≡ packets ++ tail → rest ≡ spelled tail ++ more → tail ≡ []
+      → others ≡ packets ++ tail → rest ≡ spelled h tail ++ more → tail ≡ []
   no_more packets others [] rest more over taken goes bytes = refl
   no_more packets others (p ∷ tail) rest more over taken goes bytes = absurd (⊎_elim
-      (λ (end : rest ≡ []).
-      let none : length (spelled (p ∷ tail) ++ more) ≡ 0 = ap length (sym bytes ∙ end) in
-      let some : length (spelled (p ∷ tail) ++ more) ≡ 4 + length p.1 + length (spelled tail) +
-      length more =
-      length-append (spelled (p ∷ tail)) more ∙ ap (λ (n : ℕ). n + length more)
-      (length-append (packet_bytes p.0 p.1) (spelled tail)
-      ∙ ap (λ (n : ℕ). n + length (spelled tail)) (length_packet p.0 p.1)) in
-      omega (arith, none, some))
+      (λ (end : rest ≡ []). no_bytes p tail more (sym bytes ∙ end))
       (λ (whole : (early ≡ true) × IsWhole h code packets).
       let before : take (length packets) others ≡ packets = ap (take (length packets)) goes
       ∙ take_at packets (p ∷ tail) (length packets) refl in
@@ -164,19 +155,19 @@ pub record IsRead (draws : Option ℕ) (early : Bool) (most : ℕ) (bytes : List
   pub taken : AreTaken h code early most packets
   pub rest : List ℕ
   pub rest_is : left_now ≡ Some rest
-  pub bytes_are : bytes ≡ header_bytes h ++ (spelled packets ++ rest)
+  pub bytes_are : bytes ≡ header_bytes h ++ (spelled h packets ++ rest)
   pub over : IsOver early (Some rest) h code packets
 
 -- known bytes of which two runs took a header and packets
 pub read_by : (draws : Option ℕ) (early : Bool) (most : ℕ) (bytes : List ℕ)
     (mid left_now : Option (List ℕ)) (h : HeaderFields) (code : ℕ → Matrix) (packets : List Packet)
     → Opens draws (Some bytes) mid h code → AreTaken h code early most packets
-    → Consumes mid left_now (spelled packets ++ []) → IsOver early left_now h code packets
+    → Consumes mid left_now (spelled h packets ++ []) → IsOver early left_now h code packets
     → IsRead draws early most bytes left_now h code packets
 read_by draws early most bytes mid left_now h code packets opens are taken over =
     let first = taken_of bytes mid (header_bytes h) opens.taken in
-    let second = taken_of first.0 left_now (spelled packets ++ [])
-    (subst (λ (l : Option (List ℕ)). Consumes l left_now (spelled packets ++ [])) first.1 taken)
+    let second = taken_of first.0 left_now (spelled h packets ++ [])
+    (subst (λ (l : Option (List ℕ)). Consumes l left_now (spelled h packets ++ [])) first.1 taken)
     in
     record {
       header = opens.header;
@@ -185,7 +176,7 @@ read_by draws early most bytes mid left_now h code packets opens are taken over 
       rest = second.0;
       rest_is = second.1;
       bytes_are = first.2 ∙ ap (λ (l : List ℕ). header_bytes h ++ l) (second.2
-          ∙ ap (λ (l : List ℕ). l ++ second.0) (append-nil (spelled packets)));
+          ∙ ap (λ (l : List ℕ). l ++ second.0) (append-nil (spelled h packets)));
       over = subst (λ (l : Option (List ℕ)). IsOver early l h code packets) second.1 over;
     }
 
@@ -198,23 +189,23 @@ module _ (header_one : HeaderIsOne) (packet_one : PacketIsOne) (draws limit : Op
       → IsRead limit early highest bytes other_left h other others → (packets ≡ others)
       × (left_now ≡ other_left)
   packets_read h code other packets others bytes left_now other_left first second =
-      let same : spelled packets ++ first.rest ≡ spelled others ++ second.rest =
-      append_cancel_left (header_bytes h) (spelled packets ++ first.rest)
-      (spelled others ++ second.rest) (sym first.bytes_are ∙ second.bytes_are) in
+      let same : spelled h packets ++ first.rest ≡ spelled h others ++ second.rest =
+      append_cancel_left (header_bytes h) (spelled h packets ++ first.rest)
+      (spelled h others ++ second.rest) (sym first.bytes_are ∙ second.bytes_are) in
       let there = codes_one h draws limit code other first.codes second.codes in
       let back = codes_one h limit draws other code second.codes first.codes in
       let both : (packets ≡ others) × (first.rest ≡ second.rest) = ⊎_elim
-      (λ (g : GoesOn packets others first.rest second.rest).
+      (λ (g : GoesOn h packets others first.rest second.rest).
       let none = no_more h early highest code other there packets others g.0 first.rest second.rest
       first.over second.taken g.1 g.2 in (
         sym (g.1 ∙ ap (λ (l : List Packet). packets ++ l) none ∙ append-nil packets),
-        g.2 ∙ ap (λ (l : List Packet). spelled l ++ second.rest) none,
+        g.2 ∙ ap (λ (l : List Packet). spelled h l ++ second.rest) none,
       ))
-      (λ (g : GoesOn others packets second.rest first.rest).
+      (λ (g : GoesOn h others packets second.rest first.rest).
       let none = no_more h early most other code back others packets g.0 second.rest first.rest
       second.over first.taken g.1 g.2 in (
         g.1 ∙ ap (λ (l : List Packet). others ++ l) none ∙ append-nil others,
-        sym (g.2 ∙ ap (λ (l : List Packet). spelled l ++ first.rest) none),
+        sym (g.2 ∙ ap (λ (l : List Packet). spelled h l ++ first.rest) none),
       ))
       (one_front packet_one h first.header packets others first.rest second.rest first.taken.each
       second.taken.each same) in
@@ -226,8 +217,8 @@ module _ (header_one : HeaderIsOne) (packet_one : PacketIsOne) (draws limit : Op
       → IsRead draws early most bytes left_now h code packets
       → IsRead limit early highest bytes other_left k other others → h ≡ k
   header_read h k code other packets others bytes left_now other_left first second =
-      let parts = same_fronts (header_bytes h) (header_bytes k) (spelled packets ++ first.rest)
-      (spelled others ++ second.rest) (length_header h ∙ sym (length_header k))
+      let parts = same_fronts (header_bytes h) (header_bytes k) (spelled h packets ++ first.rest)
+      (spelled k others ++ second.rest) (length_header h ∙ sym (length_header k))
       (sym first.bytes_are ∙ second.bytes_are) in
       header_one h k first.header.bits second.header.bits parts.0
 

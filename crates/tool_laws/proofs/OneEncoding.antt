@@ -34,7 +34,7 @@ module _ (h : HeaderFields) (draws : Option ℕ) (object : List ℕ) where
       → (file ≡ other) × (report ≡ other_report)
   encoding_one file other report other_report first second =
       let same = words_one first.words second.words first.encoded second.encoded in (
-        first.file_is ∙ ap (λ ws. header_bytes h ++ packets ws) same ∙ sym second.file_is,
+        first.file_is ∙ ap (λ ws. header_bytes h ++ packets h ws) same ∙ sym second.file_is,
         first.report_is ∙ ap (λ (ws : List (List (List ℕ))). encode_report (length ws)
             (sum_by length ws)) same ∙ sym second.report_is,
       )

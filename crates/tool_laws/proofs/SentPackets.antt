@@ -12,12 +12,14 @@ use Rattle.std.proofs.lemmas.List.Elements.{Contains-append_left, Contains-appen
 use Rattle.packet_file.specs.Header.{HeaderFields, IsHeader, source_counts, symbol_count}
 use Rattle.packet_file.specs.Header.{total_symbols}
 use Rattle.packet_file.specs.Laws.{HeaderIsOne, PacketIsOne}
-use Rattle.packet_file.specs.Packets.{IsPacketOf, Packet, block_symbols, packet_bytes, spelled}
+use Rattle.packet_file.specs.Packets.{IsIdOf, IsPacketOf, Packet, block_symbols, packet_bytes}
+use Rattle.packet_file.specs.Packets.{spelled}
+use Rattle.packet_file.proofs.OneFile.{packets_one}
 use Rattle.object_file.specs.Codes.{count_at}
 use Rattle.object_file.specs.File.{AreEncoded, block_packets, identifier, packets}
 use Rattle.object_file.proofs.Codewords.{same_sums}
+use Rattle.object_file.proofs.PaddedObject.{word_padded}
 use Rattle.tool_laws.proofs.MatrixSizes.{matrix_sized}
-use Rattle.tool_laws.proofs.OneReading.{packets_one}
 
 -- the codeword of block b
 abbrev pub word_of : List (List (List ℕ)) → ℕ → List (List ℕ)
@@ -38,19 +40,23 @@ packet_list first words = flat_map (λ (p : ℕ × List (List ℕ)). block_list 
 
 -- ---- their bytes
 
-block_spelled : (b first : ℕ) (word : List (List ℕ)) → spelled (block_list b first word)
-    ≡ flat_map (λ (p : ℕ × List ℕ). packet_bytes (identifier b p.0) p.1) (enumerate_from first word)
-block_spelled b first [] = refl
-block_spelled b first (symbol ∷ word) = ap (λ (l : List ℕ). packet_bytes (identifier b first) symbol
-    ++ l) (block_spelled b (first + 1) word)
+block_spelled : (h : HeaderFields) (b first : ℕ) (word : List (List ℕ))
+    → spelled h (block_list b first word)
+    ≡ flat_map (λ (p : ℕ × List ℕ). packet_bytes h (identifier b p.0, p.1))
+    (enumerate_from first word)
+block_spelled h b first [] = refl
+block_spelled h b first (symbol ∷ word) =
+    ap (λ (l : List ℕ). packet_bytes h (identifier b first, symbol) ++ l)
+    (block_spelled h b (first + 1) word)
 
-pub list_spelled : (first : ℕ) (words : List (List (List ℕ))) → spelled (packet_list first words)
-    ≡ flat_map (λ (p : ℕ × List (List ℕ)). block_packets p.0 p.1) (enumerate_from first words)
-list_spelled first [] = refl
-list_spelled first (word ∷ words) =
-    flat_map-append (λ (p : Packet). packet_bytes p.0 p.1) (block_list first 0 word)
-    (packet_list (first + 1) words)
-    ∙ ap₂ (λ (l k : List ℕ). l ++ k) (block_spelled first 0 word) (list_spelled (first + 1) words)
+pub list_spelled : (h : HeaderFields) (first : ℕ) (words : List (List (List ℕ)))
+    → spelled h (packet_list first words)
+    ≡ flat_map (λ (p : ℕ × List (List ℕ)). block_packets h p.0 p.1) (enumerate_from first words)
+list_spelled h first [] = refl
+list_spelled h first (word ∷ words) =
+    flat_map-append (packet_bytes h) (block_list first 0 word) (packet_list (first + 1) words)
+    ∙ ap₂ (λ (l k : List ℕ). l ++ k) (block_spelled h first 0 word)
+    (list_spelled h (first + 1) words)
 
 -- ---- their number
 
@@ -125,32 +131,42 @@ pub record IsOfWords (words : List (List (List ℕ))) (p : Packet) : Type 0 wher
   pub bytes : p.1 ≡ get_or (word_of words p.0.sbn) p.0.esi []
 
 module _ (header_one : HeaderIsOne) (packet_one : PacketIsOne) (h : HeaderFields) (draws : Option ℕ)
-    (object : List ℕ) (words : List (List (List ℕ))) (header : IsHeader h)
-    (encoded : AreEncoded h draws object words) where
+    (object : List ℕ) (words : List (List (List ℕ))) (size : h.oti.length ≡ length object)
+    (header : IsHeader h) (encoded : AreEncoded h draws object words) where
   -- the codeword of a block has as many symbols as the header says
   word_long : (b : ℕ) → b < length words → length (word_of words b) ≡ block_symbols h b
   word_long b lt = let block = encoded.each b lt in block.encoded.codeword.count
       ∙ (matrix_sized h draws (count_at h b) block.matrix block.code).1
 
+  of_file : (b e : ℕ) → b < length words → e < length (word_of words b)
+      → IsPacketOf h (packet_at b e (get_or (word_of words b) e []))
+  of_file b e lt inside =
+      let block = encoded.each b lt in
+      let of : IsIdOf h (identifier b e) = record {
+        block = omega (arith, lt, encoded.counted);
+        symbol = omega (arith, inside, word_long b lt);
+      } in
+      record {
+        id = of;
+        long = (block.encoded.codeword.symbols e [] inside).long;
+        padded = word_padded h header object size b (omega (arith, lt, encoded.counted))
+            block.matrix (matrix_sized h draws (count_at h b) block.matrix block.code).0
+            (word_of words b) block.encoded e inside of;
+      }
+
   pub list_of_file : All (IsPacketOf h) (packet_list 0 words)
   list_of_file = list_all (IsPacketOf h) 0 words (λ b e lt inside.
       let at : 0 + b ≡ b = omega arith in
-      rw at (record {
-        id = record {
-          block = omega (arith, encoded.counted);
-          symbol = omega (arith, word_long b lt);
-        };
-        long = ((encoded.each b lt).encoded.codeword.symbols e [] inside).long;
-      }))
+      rw at (of_file b e lt inside))
 
   -- they are those of the codewords
-  sent_are : (sent : List Packet) → All (IsPacketOf h) sent → spelled sent ≡ packets words
+  sent_are : (sent : List Packet) → All (IsPacketOf h) sent → spelled h sent ≡ packets h words
       → sent ≡ packet_list 0 words
   sent_are sent each same = packets_one header_one packet_one h header sent (packet_list 0 words)
-      each list_of_file (same ∙ sym (list_spelled 0 words))
+      each list_of_file (same ∙ sym (list_spelled h 0 words))
 
   module _ (sent : List Packet) (each : All (IsPacketOf h) sent)
-      (same : spelled sent ≡ packets words) where
+      (same : spelled h sent ≡ packets h words) where
     pub of_words : (p : Packet) → Contains sent p → IsOfWords words p
     of_words p is = All-contains (IsOfWords words) (packet_list 0 words) p
         (list_all (IsOfWords words) 0 words (λ b e lt inside. let at : 0 + b ≡ b = omega arith in

@@ -15,6 +15,7 @@ use Rattle.packet_file.specs.declared.fault.FileFault.TheVariants.{ShortHeader, 
 use Rattle.packet_file.specs.declared.fault.FileFault.TheVariants.{BadVersion, BadCodec}
 use Rattle.packet_file.specs.declared.fault.FileFault.TheVariants.{BadReserved, Field, ShortPacket}
 use Rattle.packet_file.specs.declared.fault.FileFault.TheVariants.{NoSuchBlock, NoSuchSymbol}
+use Rattle.packet_file.specs.declared.fault.FileFault.TheVariants.{BadLength, BadPadding}
 use Rattle.packet_file.specs.declared.fault.FileFault.TheVariants.{TooLarge, TooManyBlocks}
 use Rattle.packet_file.specs.declared.fault.FileFault.TheVariants.{TooManyPackets, ReadFault}
 use Rattle.tool_base.specs.declared.status.Status.{Status}
@@ -35,6 +36,8 @@ no_fault (Field fault) is = cc
 no_fault (ShortPacket index have) is = cc
 no_fault (NoSuchBlock index sbn) is = cc
 no_fault (NoSuchSymbol index esi) is = cc
+no_fault (BadLength index len) is = cc
+no_fault (BadPadding index) is = cc
 no_fault (TooLarge limit) is = cc
 no_fault TooManyBlocks is = cc
 no_fault TooManyPackets is = cc

@@ -55,7 +55,7 @@ DatagramsComeBack = (symbol : ℕ) (datagram_stream frames : List ℕ) (h : Head
     (first last : Streams) (watch watch_now : Hearing) (before after : Streams) (ended : Status)
     → WroteFrames symbol datagram_stream frames → AreSent h draws frames sent → AreAmong came sent
     → length came ≤ most
-    → IsCleanDecode h (header_bytes h ++ spelled came) limit early most first last watch watch_now
+    → IsCleanDecode h (header_bytes h ++ spelled h came) limit early most first last watch watch_now
     status.Done
     → first.output.bytes ≡ Some [] → before.input.bytes ≡ last.output.bytes
     → NothingFails before after → IsDatagramRun Unframing symbol before after ended

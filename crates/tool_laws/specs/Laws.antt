@@ -2,17 +2,20 @@
 use Rattle.std.specs.Prelude.{◌≡◌, ◌≢◌, ℕ, Bool, List, ◌++◌, length, map, All, Option, Some, IfSome}
 use Rattle.std.specs.Io.KnownBytes.{Consumes}
 use Rattle.std.specs.Option.{option_map}
+use Rattle.fec_base.specs.Outside.{Stream}
 use Rattle.fec_base.specs.Told.{Telling, place_of}
 use Rattle.fec_base.specs.declared.outside.Place.{Place}
 use Rattle.fec_session.specs.declared.outcome.Outcome.{Outcome}
 use Rattle.packet_file.specs.Header.{HeaderFields, header_bytes}
-use Rattle.packet_file.specs.Reading.{FailsAtHeader, FailsAtPacket}
+use Rattle.packet_file.specs.OnePacket.{StopsBefore}
+use Rattle.packet_file.specs.OneReading.{LacksHeader}
+use Rattle.packet_file.specs.OneReading.Stop.{Bad}
 use Rattle.packet_file.specs.declared.fault.FileFault.{FileFault}
 use Rattle.tool_base.specs.declared.status.Status.TheVariants as status
 use Rattle.tool_commands.specs.DecodeRun.{Decodes}
 use Rattle.object_file.specs.File.{IsEncoding}
 use Rattle.tool_commands.specs.Outcomes.{outcome_status}
-use Rattle.object_file.specs.Received.{IsPacketFile}
+use Rattle.packet_file.specs.Files.{IsPacketFile}
 use Rattle.packet_file.specs.Packets.{IsPacketOf, Packet, spelled}
 
 -- bytes are the packet file of one header and one list of packets at most
@@ -53,8 +56,8 @@ DecodingIsOne = (draws other_draws : Option ℕ) (early : Bool) (most other_most
 -- its packets they aren't refused as a packet
 abbrev pub PacketFileHasNoFault : Type 0
 PacketFileHasNoFault = (h : HeaderFields) (most : ℕ) (packets : List Packet) (bytes : List ℕ)
-    → IsPacketFile h most packets bytes → (fault : FileFault) (left : Option (List ℕ))
-    → (¬ FailsAtHeader fault (Some bytes) left)
-    × ((before : List Packet) (mid : Option (List ℕ)) → All (IsPacketOf h) before
-    → Consumes (Some bytes) mid (header_bytes h ++ spelled before)
-    → ¬ FailsAtPacket fault h (length before) most mid left)
+    → IsPacketFile h most packets bytes → (fault : FileFault) (input now : Stream)
+    → (input.bytes ≡ Some bytes → ¬ LacksHeader input now (Bad fault))
+    × ((before : List Packet) → All (IsPacketOf h) before
+    → Consumes (Some bytes) input.bytes (header_bytes h ++ spelled h before)
+    → ¬ StopsBefore h most (length before) input now (Bad fault))

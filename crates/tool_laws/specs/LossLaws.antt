@@ -4,7 +4,7 @@ use Rattle.std.specs.Prelude.{Bool, List, Option, Some, [], length, ℕ, ◌≡�
 use Rattle.fec_base.specs.Outside.{Hearing}
 use Rattle.loss_patterns.specs.declared.kind.LossKind.{LossKind}
 use Rattle.object_file.specs.Options.{header_for}
-use Rattle.object_file.specs.Received.{IsPacketFile}
+use Rattle.packet_file.specs.Files.{IsPacketFile}
 use Rattle.object_file.specs.declared.options.EncodeOptions.{EncodeOptions}
 use Rattle.packet_file.specs.Header.{HeaderFields, total_symbols}
 use Rattle.packet_file.specs.Packets.{Packet}

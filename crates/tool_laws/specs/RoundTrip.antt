@@ -15,7 +15,8 @@ use Rattle.object_file.specs.Codes.{count_at, header_matrix}
 use Rattle.object_file.specs.File.{IsEncoding, identifier, source_block}
 use Rattle.packet_file.specs.Packets.{Packet, spelled}
 use Rattle.fec_session.specs.Determines.{Determines}
-use Rattle.object_file.specs.Received.{IsPacketFile, arrivals_of}
+use Rattle.packet_file.specs.Files.{IsPacketFile}
+use Rattle.object_file.specs.Received.{arrivals_of}
 use Rattle.object_file.specs.Told.{HasCodes, IsToldBy}
 use Rattle.tool_commands.specs.DecodeRun.{Decodes}
 use Rattle.tool_commands.specs.Outcomes.{object_of, outcome_status}
@@ -132,7 +133,7 @@ ChosenDecodeRight = (h : HeaderFields) (draws limit : Option ℕ) (object : List
     (sent came : List Packet) (early : Bool) (most : ℕ) (left : Option (List ℕ))
     (told told_now : Option (List Telling)) (outcomes : List Outcome) (made report : List ℕ)
     → AreSent h draws object sent → AreAmong came sent
-    → Decodes limit early most (Some (header_bytes h ++ spelled came)) left told told_now
+    → Decodes limit early most (Some (header_bytes h ++ spelled h came)) left told told_now
     outcomes made report
     → ((outcome_status outcomes ≡ status.Done) × (made ≡ object))
     ⊎ (outcome_status outcomes ≡ status.Undetermined)
@@ -143,7 +144,7 @@ ChosenDecodeWithoutNullWords = (h : HeaderFields) (draws limit : Option ℕ) (ob
     (sent came : List Packet) (early : Bool) (most : ℕ) (left : Option (List ℕ))
     (told told_now : Option (List Telling)) (outcomes : List Outcome) (made report : List ℕ)
     → AreSent h draws object sent → AreAmong came sent
-    → Decodes limit early most (Some (header_bytes h ++ spelled came)) left told told_now
+    → Decodes limit early most (Some (header_bytes h ++ spelled h came)) left told told_now
     outcomes made report
     → (outcome_status outcomes ≡ status.Done) ↔ LackNullWords h draws came
 

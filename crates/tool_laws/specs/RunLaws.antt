@@ -1,11 +1,11 @@
 -- What runs come to where nothing outside fails.
-use Rattle.std.specs.Prelude.{◌≡◌, ◌⊎◌, ◌≤◌, ℕ, Bool, List, [], ◌++◌, length, Option, Some}
+use Rattle.std.specs.Prelude.{◌≡◌, ◌⊎◌, ◌≤◌, ℕ, Bool, List, [], ◌++◌, length, Option, Some, All}
 use Rattle.std.specs.Io.KnownBytes.{Appends, IsAtEnd, Keeps}
 use Rattle.fec_base.specs.Causes.{Rose}
 use Rattle.sparse_rows.specs.Matrix.{Matrix}
 use Rattle.packet_file.specs.Header.{HeaderFields, IsHeader, header_bytes, total_symbols}
 use Rattle.packet_file.specs.Packets.{Packet, spelled}
-use Rattle.packet_pass.specs.Pass.{head_of, loss_in, seed_in, texts}
+use Rattle.packet_pass.specs.Pass.{IsFitFor, head_of, loss_in, seed_in, texts}
 use Rattle.packet_pass.specs.Thinned.{kept_of}
 use Rattle.packet_pass.specs.declared.kind.Pass.{Pass}
 use Rattle.packet_pass.specs.declared.kind.Passed.{Passed}
@@ -14,7 +14,7 @@ use Rattle.tool_base.specs.declared.status.Status.TheVariants as status
 use Rattle.object_file.specs.Options.{header_for}
 use Rattle.fec_base.specs.Outside.{Hearing}
 use Rattle.tool_base.specs.Outside.{Streams}
-use Rattle.object_file.specs.Received.{IsPacketFile}
+use Rattle.packet_file.specs.Files.{IsPacketFile}
 use Rattle.object_file.specs.Told.{HasCodes}
 use Rattle.tool_commands.specs.EncodeRun.{Encoded, IsEncodeRun}
 use Rattle.tool_commands.specs.DecodeRun.{Decided, IsDecodeRun}
@@ -78,7 +78,7 @@ ChosenAreDecoded = (h : HeaderFields) (draws limit : Option ℕ) (object : List 
     (sent came : List Packet) (early : Bool) (most : ℕ) (before after : Streams)
     (watch watch_now : Hearing) (ended : Status)
     → AreSent h draws object sent → AreAmong came sent → length came ≤ most
-    → IsCleanDecode h (header_bytes h ++ spelled came) limit early most before after
+    → IsCleanDecode h (header_bytes h ++ spelled h came) limit early most before after
     watch watch_now ended
     → OrMemory ended
     (((ended ≡ status.Done) × Appends before.output.bytes after.output.bytes object
@@ -111,14 +111,15 @@ pub record WritesText (pass : Pass) (h : HeaderFields) (packets : List Packet)
     (before after : Streams) : Type 0 where
   pub ended : IsAtEnd after.input.bytes
   pub written : Appends before.output.bytes after.output.bytes
-      (head_of pass h ++ texts pass packets)
+      (head_of pass h ++ texts pass h packets)
   pub reported : Appends before.report.bytes after.report.bytes
       (pass_report pass (counts_of pass packets))
 
--- a `lose` or a `show` doesn't refuse a packet file: its text is written
+-- a pass doesn't refuse a packet file whose packets it can pass on, as a `lose` and a `show` can
+-- all: its text is written
 abbrev pub PacketFileIsPassed : Type 0
 PacketFileIsPassed = (pass : Pass) (h : HeaderFields) (packets : List Packet) (bytes : List ℕ)
     (most : ℕ) (before after : Streams) (ended : Status)
-    → IsPacketFile h most packets bytes → before.input.bytes ≡ Some bytes
-    → NothingFails before after → IsPassRun pass most before after ended
+    → IsPacketFile h most packets bytes → All (IsFitFor pass h) packets
+    → before.input.bytes ≡ Some bytes → NothingFails before after → IsPassRun pass most before after ended
     → OrMemory ended ((ended ≡ status.Done) × WritesText pass h packets before after)

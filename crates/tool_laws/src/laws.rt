@@ -15,7 +15,7 @@ ghost use Rattle.tool_laws.specs.RunLaws.{PacketFileIsDecoded, PacketFileIsPasse
 use datagram_pass::datagrams_are_passed;
 use loss_runs::each_run_has_a_result;
 use null_witness::{null_words_follow_the_closure, null_words_show_what_is_open};
-use packet_file::headers_and_packets_have_one_spelling;
+use packet_file::{files_have_one_fault, headers_and_packets_have_one_spelling};
 use peeling::closure_is_least;
 use sparse_rows::null_words_hold_a_source_symbol;
 
@@ -31,6 +31,7 @@ pub fn one_reading_for_each_file()
 pub fn packet_files_have_no_fault()
     ensures { PacketFileHasNoFault }
 {
+    files_have_one_fault();
     headers_and_packets_have_one_spelling();
 }
 
@@ -128,6 +129,7 @@ pub fn objects_are_encoded()
 pub fn packet_files_are_decoded()
     ensures { PacketFileIsDecoded }
 {
+    files_have_one_fault();
     headers_and_packets_have_one_spelling();
 }
 
@@ -138,6 +140,7 @@ pub fn packet_files_are_decoded()
 pub fn chosen_packets_are_decoded()
     ensures { ChosenAreDecoded }
 {
+    files_have_one_fault();
     headers_and_packets_have_one_spelling();
     null_words_show_what_is_open();
     null_words_follow_the_closure();
@@ -149,18 +152,20 @@ pub fn chosen_packets_are_decoded()
 pub fn what_was_encoded_is_decoded()
     ensures { EncodedIsDecoded }
 {
+    files_have_one_fault();
     headers_and_packets_have_one_spelling();
     closure_is_least();
     null_words_follow_the_closure();
     null_words_hold_a_source_symbol();
 }
 
-/// A `lose` or a `show` of a packet file refuses nothing, within the limits and where nothing
-/// outside fails: the text of its header and of its packets is written and reported; or memory
-/// lacks.
+/// A `lose`, a `show` or an `upgrade` of a packet file refuses nothing, within the limits and where
+/// nothing outside fails, and an `upgrade` where the padding of its packets is zero: the text of its
+/// header and of its packets is written and reported; or memory lacks.
 pub fn packet_files_are_passed()
     ensures { PacketFileIsPassed }
 {
+    files_have_one_fault();
     headers_and_packets_have_one_spelling();
 }
 
@@ -185,6 +190,7 @@ pub fn what_is_left_is_never_decoded_wrong()
     ensures left { LossLeavesPacketFile }
     ensures decoded { LostIsNeverDecodedWrong }
 {
+    files_have_one_fault();
     headers_and_packets_have_one_spelling();
     null_words_follow_the_closure();
     null_words_hold_a_source_symbol();

@@ -6,6 +6,7 @@ returns c h draws limit object sent came early most before after watch watch_now
     chosen few run =
     chosen_decoded c.headers_and_packets_have_one_spelling.ensures.header
     c.headers_and_packets_have_one_spelling.ensures.packet
+    c.files_have_one_fault.ensures.no_bad_piece
     h draws limit object sent came early most before after watch watch_now ended are_sent chosen few
     run
     c.null_words_show_what_is_open.ensures c.null_words_follow_the_closure.ensures.subset
