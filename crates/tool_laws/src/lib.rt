@@ -14,7 +14,7 @@ pub use laws::{
     null_words_decide_what_comes_back, objects_are_encoded, one_encoding_for_each_object,
     one_outcome_for_each_file, one_reading_for_each_file, one_text_for_each_perf,
     outcomes_go_by_the_set_of_packets, packet_files_are_decoded, packet_files_are_passed,
-    packet_files_have_no_fault, unframe_undoes_frame, what_is_left_is_never_decoded_wrong,
-    what_is_told_is_of_the_file, what_was_encoded_is_decoded,
+    packet_files_have_no_fault, unframe_undoes_frame, upgraded_files_decode_alike,
+    what_is_left_is_never_decoded_wrong, what_is_told_is_of_the_file, what_was_encoded_is_decoded,
     what_was_encoded_is_never_decoded_wrong,
 };
