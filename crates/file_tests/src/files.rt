@@ -53,7 +53,7 @@ fn the_first_fault_of_a_header_is_named(rt: HostRuntime) -> Result<(), Fail> {
     let alloc = rt.alloc();
     let cases: [(usize, &[u8], FileFault); 7] = [
         (0, &[0x50], FileFault::BadMagic),
-        (4, &[2, 5], FileFault::BadVersion(2)),
+        (4, &[3, 5], FileFault::BadVersion(3)),
         (5, &[5, 1], FileFault::BadCodec(5)),
         (6, &[1], FileFault::BadReserved),
         (7, &[1], FileFault::BadReserved),
@@ -162,6 +162,7 @@ fn packets_go_both_ways(rt: HostRuntime) -> Result<(), Fail> {
     assert!(rt; header.symbol_len() == 1);
     assert!(rt; header.plan().count() > 0);
     assert!(rt; header.symbol_count(0) > 6);
+    assert!(rt; header.padding_is_zero(id, &[7]));
     let mut output = MemSink::new(alloc, 5, 2)?;
     assert!(rt; write_packet(&mut output, &header, id, &[7]).is_ok());
     assert!(rt; output.bytes() == [0, 0, 0, 6, 7].as_slice());

@@ -40,6 +40,7 @@ const fn encode(shape: Shape, block: u32, max_n: u32) -> Option<Command> {
         symbol: 1024,
         block,
         max_n,
+        format: 1,
     })
 }
 
@@ -120,6 +121,7 @@ fn each_option_is_read(rt: HostRuntime) -> Result<(), Fail> {
         symbol: 65_535,
         block: 1,
         max_n: 65_536,
+        format: 1,
     };
     assert!(rt; read(rt.alloc(), words.as_slice())? == Some(wanted));
     Ok(())
@@ -171,6 +173,7 @@ fn a_grid_has_the_size_of_its_width_and_block(rt: HostRuntime) -> Result<(), Fai
             symbol: 1,
             block: 5,
             max_n,
+            format: 1,
         };
         assert!(rt; read(rt.alloc(), words.as_slice())? == Some(wanted));
     }

@@ -1,15 +1,19 @@
 -- How many bytes of an encoding symbol its packet has.
 use Rattle.std.proofs.Common.{◌≡◌, ℕ, ◌+◌, ◌-◌, ◌*◌, ◌<◌, ◌≤◌, Bool, true, false, arith}
-use Rattle.std.proofs.Common.{sym, subst, if◌then◌else◌, ⊎_elim}
+use Rattle.std.proofs.Common.{List, [], length, drop, refl, sym, subst, if◌then◌else◌, ⊎_elim}
 use Rattle.std.specs.Int.{div_ceil}
 use Rattle.std.proofs.Math.Nat.{mul-le-mul_right}
 use Rattle.std.proofs.lemmas.Bool.{cases_lt}
+use Rattle.std.proofs.lemmas.List.{drop_all}
+use Rattle.fec_base.specs.Symbol.{zero_symbol}
 use Rattle.blocking.specs.Blocks.{symbol_total}
 use Rattle.blocking.proofs.Spread.{ceil_most, ceil_room}
 use Rattle.oti_fields.specs.declared.oti.Oti.{Oti}
 use Rattle.oti_fields.specs.declared.identifier.PacketId.{PacketId}
 use Rattle.packet_file.specs.Header.{HeaderFields, IsHeader}
-use Rattle.packet_file.specs.Packets.{IsIdOf, is_last, last_len, payload_by, payload_len, true_len}
+use Rattle.packet_file.specs.Files.{HasZeroPadding}
+use Rattle.packet_file.specs.Packets.{IsIdOf, IsPacketOf, IsZeroFrom, is_last, last_len, payload_by}
+use Rattle.packet_file.specs.Packets.{payload_len, true_len}
 use Rattle.packet_file.specs.declared.version.Version.{Version}
 use Rattle.packet_file.specs.declared.version.Version.TheVariants.{One, Two}
 use Rattle.packet_file.proofs.Limits.{counted}
@@ -90,3 +94,22 @@ payload_in_range h id is of =
         × (payload_by v h.oti.symbol (true_len h id) ≤ h.oti.symbol)
     by_version One some range = (some, omega arith)
     by_version Two some range = range
+
+-- a symbol whose padding is zero makes a packet of the file
+pub zero_is_packet : (h : HeaderFields) (id : PacketId) (symbol : List ℕ) → IsIdOf h id
+    → length symbol ≡ h.oti.symbol → HasZeroPadding h (id, symbol) → IsPacketOf h (id, symbol)
+zero_is_packet h id symbol of long zero = record {
+  id = of;
+  long = long;
+  padded = by_version h.version;
+}
+  where
+    whole : IsZeroFrom h.oti.symbol symbol
+    whole =
+        let none : drop h.oti.symbol symbol ≡ [] = drop_all h.oti.symbol symbol
+        (omega (arith, long)) in
+        subst (λ (l : List ℕ). l ≡ zero_symbol (length l)) (sym none) refl
+
+    by_version : (v : Version) → IsZeroFrom (payload_by v h.oti.symbol (true_len h id)) symbol
+    by_version One = whole
+    by_version Two = zero

@@ -5,8 +5,8 @@ ghost use Rattle.oti_fields.specs.Fields.{FitsBits};
 ghost use Rattle.oti_fields.specs.Faults.{field_fault};
 ghost use Rattle.packet_file.specs.Header.{IsHeader, size_fault, source_counts, symbols_by};
 ghost use Rattle.packet_file.specs.Header.{total_symbols, version_number};
-ghost use Rattle.packet_file.specs.Packets.{IsIdOf, block_symbols, is_last, last_len, payload_len};
-ghost use Rattle.packet_file.specs.Packets.{true_len};
+ghost use Rattle.packet_file.specs.Packets.{IsIdOf, IsPacketOf, block_symbols, is_last, last_len};
+ghost use Rattle.packet_file.specs.Packets.{payload_len, true_len};
 ghost use Rattle.packet_file.specs.Files.{HasZeroPadding};
 ghost use Rattle.packet_file.specs.declared.version.Version.{Version};
 ghost use Rattle.packet_file.specs.declared.version.Version.TheVariants.{One};
@@ -204,13 +204,15 @@ impl Header {
         }
     }
 
-    /// Whether the padding of an encoding symbol is zero.
+    /// Whether the padding of an encoding symbol is zero. Where it is, the symbol makes a packet of
+    /// the file, in either version.
     pub fn padding_is_zero(&self, id: PacketId, symbol: &[u8]) -> bool
         requires id { IsIdOf self.now id }
         requires symbol { length symbol.now ≡ self.now.oti.symbol }
-        ensures { IsTrue result ↔ HasZeroPadding self.now (id, symbol.now) }
+        ensures exactly { IsTrue result ↔ HasZeroPadding self.now (id, symbol.now) }
+        ensures packet { IsTrue result → IsPacketOf self.now (id, symbol.now) }
     {
-        is_zero(&symbol[self.true_len(id) as usize..])
+        has_zero_padding(self, id, symbol)
     }
 
     /// How many encoding symbols all blocks have, at most 4,194,304.
@@ -231,6 +233,15 @@ fn is_last(h: &Header, id: PacketId) -> bool
     let oti = h.oti();
     prove!(oti.symbol == h.symbol_len());
     id.sbn + 1 == h.plan().count() && id.esi + 1 == h.source_count(id.sbn)
+}
+
+// Whether the padding of an encoding symbol is zero.
+fn has_zero_padding(h: &Header, id: PacketId, symbol: &[u8]) -> bool
+    requires id { IsIdOf h.now id }
+    requires symbol { length symbol.now ≡ h.now.oti.symbol }
+    ensures { IsTrue result ↔ HasZeroPadding h.now (id, symbol.now) }
+{
+    is_zero(&symbol[h.true_len(id) as usize..])
 }
 
 // How many bytes the object has behind all its source symbols but the last.

@@ -18,6 +18,7 @@ mod passes;
 mod perf;
 mod refused;
 mod sweeps;
+mod versions;
 
 const THREE_OF_SEVEN: [&str; 4] = ["encode", "--symbol=1", "--block=3", "--max-n=7"];
 

@@ -69,9 +69,9 @@ const REFUSED: [(Damage, Status, &str); 27] = [
     ),
     (Staircase(0, b"P"), Malformed, "fault: header magic\n"),
     (
-        Staircase(4, &[2, 5]),
+        Staircase(4, &[3, 5]),
         Malformed,
-        "fault: header version 2\n",
+        "fault: header version 3\n",
     ),
     (Staircase(5, &[5, 1]), Malformed, "fault: header codec 5\n"),
     (Staircase(6, &[1]), Malformed, "fault: header reserved\n"),

@@ -1,0 +1,166 @@
+// Packet files of both versions.
+use super::{Left, check, check_left, run_over};
+use std::alloc::Global;
+use std::process::Abort;
+use std::test::Fail;
+use tool_base::Status;
+
+const TWO_BYTES: [&str; 5] = [
+    "encode",
+    "--codec=2d",
+    "--width=2",
+    "--block=3",
+    "--symbol=2",
+];
+
+const OBJECT: [u8; 5] = [1, 2, 4, 8, 16];
+
+// The file of 01 02 04 08 10 in a grid of width 2, in version 1.
+const WHOLE: [u8; 68] = *b"OFPK\x01\xc8\0\0\0\0\0\0\0\x05\0\x02\x01\0\0\x30\0\x07\0\0\0\x02\
+    \0\0\0\0\x01\x02\0\0\0\x01\x04\x08\0\0\0\x02\x10\0\0\0\0\x03\x05\x0a\
+    \0\0\0\x04\x10\0\0\0\0\x05\x11\x02\0\0\0\x06\x04\x08";
+
+// The same in version 2.
+const MEASURED: [u8; 81] =
+    *b"OFPK\x02\xc8\0\0\0\0\0\0\0\x05\0\x02\x01\0\0\x30\0\x07\0\0\0\x02\
+    \0\0\0\0\0\x02\x01\x02\0\0\0\x01\0\x02\x04\x08\0\0\0\x02\0\x01\x10\
+    \0\0\0\x03\0\x02\x05\x0a\0\0\0\x04\0\x02\x10\0\0\0\0\x05\0\x02\x11\x02\
+    \0\0\0\x06\0\x02\x04\x08";
+
+#[test]
+fn files_of_both_versions_are_encoded(rt: HostRuntime) -> Result<(), Fail> {
+    let alloc = rt.alloc();
+    let report = "blocks 1\npackets 7\n";
+    check(&rt, alloc, &TWO_BYTES, &OBJECT, Status::Done, &WHOLE, report)?;
+    let words = [
+        "encode",
+        "--codec=2d",
+        "--width=2",
+        "--block=3",
+        "--symbol=2",
+        "--format=2",
+    ];
+    check(&rt, alloc, &words, &OBJECT, Status::Done, &MEASURED, report)?;
+    Ok(())
+}
+
+// This is told as symbol number `i`.
+fn check_place(rt: &impl Abort, left: &Left, i: u32, esi: u32, bytes: &[u8]) {
+    match left.watch.told_place(i) {
+        Some(place) => assert!(rt; place.esi == esi),
+        None => assert!(rt; false),
+    }
+    assert!(rt; left.watch.told_bytes(i) == bytes);
+}
+
+#[test]
+fn files_of_both_versions_are_decoded_alike(rt: HostRuntime) -> Result<(), Fail> {
+    let alloc = rt.alloc();
+    let files: [&[u8]; 2] = [&WHOLE, &MEASURED];
+    for file in files {
+        let left = run_over(alloc, &["decode"], file)?;
+        let report = b"block 0 peeled\npackets 7\n";
+        check_left(&rt, &left, Status::Done, &OBJECT, report);
+        assert!(&rt; left.watch.told_count() == 4);
+        check_place(&rt, &left, 0, 3, &[5, 10]);
+        check_place(&rt, &left, 1, 6, &[4, 8]);
+        check_place(&rt, &left, 2, 4, &[16, 0]);
+        check_place(&rt, &left, 3, 5, &[17, 2]);
+    }
+    Ok(())
+}
+
+#[test]
+fn files_of_both_versions_are_upgraded(rt: HostRuntime) -> Result<(), Fail> {
+    let alloc = rt.alloc();
+    let files: [&[u8]; 2] = [&WHOLE, &MEASURED];
+    for file in files {
+        check(
+            &rt,
+            alloc,
+            &["upgrade"],
+            file,
+            Status::Done,
+            &MEASURED,
+            "packets 7\n",
+        )?;
+    }
+    Ok(())
+}
+
+// A run of the word over a header and these bytes ends so, with some of the input left.
+fn check_behind(
+    rt: &impl Abort,
+    alloc: Global,
+    word: &str,
+    header: &[u8],
+    bytes: &[u8],
+    output: &[u8],
+    report: &str,
+) -> Result<usize, Fail> {
+    let mut file = Vec::from_slice(alloc, header)?;
+    file.extend_from_slice(bytes)?;
+    let left = run_over(alloc, &[word], &file)?;
+    check_left(rt, &left, Status::Malformed, output, report.as_bytes());
+    Ok(left.unread)
+}
+
+#[test]
+fn a_wrong_length_is_refused(rt: HostRuntime) -> Result<(), Fail> {
+    let alloc = rt.alloc();
+    let header = &MEASURED[..26];
+    let long = [0u8, 0, 0, 2, 0, 2, 16, 0];
+    let text = "fault: packet 0 length 2\n";
+    let unread = check_behind(&rt, alloc, "decode", header, &long, &[], text)?;
+    assert!(&rt; unread == 2);
+    let short = [0u8, 0, 0, 0, 0, 2, 1];
+    let text = "fault: packet 0 short 7\n";
+    let unread = check_behind(&rt, alloc, "decode", header, &short, &[], text)?;
+    assert!(&rt; unread == 0);
+    Ok(())
+}
+
+#[test]
+fn padding_that_is_not_zero_is_not_upgraded(rt: HostRuntime) -> Result<(), Fail> {
+    let alloc = rt.alloc();
+    let header = &WHOLE[..26];
+    let packet = [0u8, 0, 0, 2, 16, 1];
+    let text = "fault: packet 0 padding\n";
+    check_behind(&rt, alloc, "upgrade", header, &packet, &MEASURED[..26], text)?;
+    let mut file = Vec::from_slice(alloc, header)?;
+    file.extend_from_slice(&packet)?;
+    let left = run_over(alloc, &["decode"], &file)?;
+    assert!(&rt; left.status == Status::Undetermined);
+    Ok(())
+}
+
+#[test]
+fn files_of_version_2_are_passed(rt: HostRuntime) -> Result<(), Fail> {
+    let alloc = rt.alloc();
+    let words = ["lose", "--loss=first:6"];
+    let mut file = Vec::from_slice(alloc, &MEASURED[..26])?;
+    file.extend_from_slice(&MEASURED[73..])?;
+    check(
+        &rt,
+        alloc,
+        &words,
+        &MEASURED,
+        Status::Done,
+        &file,
+        "read 7 kept 1\n",
+    )?;
+    let lines = "codec 2d width 2 length 5 symbol 2 block 3 max 7 blocks 1\n\
+        packet 0 block 0 symbol 0 bytes 0102\n\
+        packet 1 block 0 symbol 1 bytes 0408\n\
+        packet 2 block 0 symbol 2 bytes 10\n";
+    check(
+        &rt,
+        alloc,
+        &["show"],
+        &MEASURED[..49],
+        Status::Done,
+        lines.as_bytes(),
+        "",
+    )?;
+    Ok(())
+}
