@@ -1,5 +1,8 @@
 // Packet files of both versions.
-use super::{Left, check, check_left, run_over};
+ghost use Rattle.std.specs.Prelude.{◌+◌, ◌≤◌};
+
+use super::sweeps::{check_failing_input, check_outputs, check_reports};
+use super::{Left, ample, check, check_left, run_in, run_over};
 use std::alloc::Global;
 use std::process::Abort;
 use std::test::Fail;
@@ -11,6 +14,15 @@ const TWO_BYTES: [&str; 5] = [
     "--width=2",
     "--block=3",
     "--symbol=2",
+];
+
+const SECOND: [&str; 6] = [
+    "encode",
+    "--codec=2d",
+    "--width=2",
+    "--block=3",
+    "--symbol=2",
+    "--format=2",
 ];
 
 const OBJECT: [u8; 5] = [1, 2, 4, 8, 16];
@@ -32,15 +44,7 @@ fn files_of_both_versions_are_encoded(rt: HostRuntime) -> Result<(), Fail> {
     let alloc = rt.alloc();
     let report = "blocks 1\npackets 7\n";
     check(&rt, alloc, &TWO_BYTES, &OBJECT, Status::Done, &WHOLE, report)?;
-    let words = [
-        "encode",
-        "--codec=2d",
-        "--width=2",
-        "--block=3",
-        "--symbol=2",
-        "--format=2",
-    ];
-    check(&rt, alloc, &words, &OBJECT, Status::Done, &MEASURED, report)?;
+    check(&rt, alloc, &SECOND, &OBJECT, Status::Done, &MEASURED, report)?;
     Ok(())
 }
 
@@ -162,5 +166,70 @@ fn files_of_version_2_are_passed(rt: HostRuntime) -> Result<(), Fail> {
         lines.as_bytes(),
         "",
     )?;
+    Ok(())
+}
+
+// Where each packet of the file of version 2 begins, and how many bytes it has.
+const PACKETS: [(usize, usize); 7] = [
+    (26, 8),
+    (34, 8),
+    (42, 7),
+    (49, 8),
+    (57, 8),
+    (65, 8),
+    (73, 8),
+];
+
+// The file ends so many bytes behind the start of a packet, or the input fails there: the packets
+// before were passed on.
+fn check_within(
+    rt: &impl Abort,
+    alloc: Global,
+    chunk: usize,
+    packet: usize,
+    start: usize,
+    have: usize,
+) -> Result<(), Fail>
+    requires chunk { 1 ≤ chunk }
+    requires inside { start + have ≤ 81 }
+{
+    let report = format!(in alloc; "fault: packet {packet} short {have}\n")?;
+    let (cut, before) = (&MEASURED[..start + have], &MEASURED[..start]);
+    for word in ["lose", "upgrade"] {
+        let left = run_in(alloc, &[word], cut, ample(chunk))?;
+        check_left(rt, &left, Status::Malformed, before, report.as_bytes());
+        check_failing_input(rt, alloc, &[word], &MEASURED, start + have, chunk, before)?;
+    }
+    let left = run_in(alloc, &["decode"], cut, ample(chunk))?;
+    check_left(rt, &left, Status::Malformed, &[], report.as_bytes());
+    check_failing_input(rt, alloc, &["decode"], &MEASURED, start + have, chunk, &[])
+}
+
+#[test]
+fn files_of_version_2_cut_at_each_byte_or_failing_there(rt: HostRuntime) -> Result<(), Fail> {
+    for chunk in [1usize, 7] {
+        assert!(rt; 1 <= chunk);
+        for (packet, (start, len)) in PACKETS.iter().enumerate() {
+            assert!(rt; *start <= 73 && *len <= 8);
+            for have in 1..*len {
+                check_within(&rt, rt.alloc(), chunk, packet, *start, have)?;
+            }
+        }
+    }
+    Ok(())
+}
+
+#[test]
+fn an_upgrade_that_fails_at_each_byte(rt: HostRuntime) -> Result<(), Fail> {
+    let (alloc, words) = (rt.alloc(), ["upgrade"]);
+    for chunk in [1usize, 7] {
+        assert!(rt; 1 <= chunk);
+        for stop in 0..26usize {
+            check_failing_input(&rt, alloc, &words, &WHOLE, stop, chunk, &[])?;
+        }
+        check_outputs(&rt, alloc, &words, &WHOLE, &MEASURED, chunk)?;
+        check_reports(&rt, alloc, &words, &WHOLE, &MEASURED, "packets 7\n", chunk)?;
+        check_outputs(&rt, alloc, &SECOND, &OBJECT, &MEASURED, chunk)?;
+    }
     Ok(())
 }
