@@ -13,4 +13,6 @@ mod passes;
 #[cfg(test)]
 mod runs;
 #[cfg(test)]
+mod versions;
+#[cfg(test)]
 mod words;

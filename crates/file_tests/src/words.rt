@@ -94,6 +94,8 @@ fn each_option_of_a_pass_is_read(rt: HostRuntime) -> Result<(), Fail> {
     assert!(rt; read(rt.alloc(), words.as_slice())? == Some(lose));
     let show = Command::Show { packets: 7 };
     assert!(rt; read(rt.alloc(), &["show", "--packets=7"])? == Some(show));
+    let upgrade = Command::Upgrade { packets: 7 };
+    assert!(rt; read(rt.alloc(), &["upgrade", "--packets=7"])? == Some(upgrade));
     Ok(())
 }
 
@@ -108,6 +110,7 @@ fn each_option_is_read(rt: HostRuntime) -> Result<(), Fail> {
         "--block=1",
         "--max-n=65536",
         "--draws=4294967295",
+        "--format=2",
     ];
     let shape = Shape {
         codec: Codec::Triangle,
@@ -121,7 +124,7 @@ fn each_option_is_read(rt: HostRuntime) -> Result<(), Fail> {
         symbol: 65_535,
         block: 1,
         max_n: 65_536,
-        format: 1,
+        format: 2,
     };
     assert!(rt; read(rt.alloc(), words.as_slice())? == Some(wanted));
     Ok(())
@@ -346,6 +349,7 @@ fn options_that_are_not_the_commands_are_usage(rt: HostRuntime) -> Result<(), Fa
             &["lose", "--loss=none", "--loss=none"],
             &["show", "--loss=none"],
             &["show", "--seed=1"],
+            &["upgrade", "--format=2"],
         ],
     )
 }
@@ -359,6 +363,8 @@ fn values_out_of_their_ranges_are_usage(rt: HostRuntime) -> Result<(), Fail> {
             &["encode", "--symbol=0"],
             &["encode", "--symbol=65536"],
             &["encode", "--max-n=2", "--block=3"],
+            &["encode", "--format=0"],
+            &["encode", "--format=3"],
             &["decode", "--packets=16777217"],
             &["decode", "--draws=4294967296"],
             &["decode", "--early=no "],
