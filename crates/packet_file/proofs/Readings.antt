@@ -9,7 +9,8 @@ use Rattle.fec_base.specs.Outside.{Stream}
 use Rattle.packet_file.specs.Header.{HeaderFields}
 use Rattle.packet_file.specs.Packets.{IsPacketOf, Packet, packet_bytes, spelled}
 use Rattle.packet_file.specs.OneReading.{Reads, Stop, StopsAt}
-use Rattle.packet_file.specs.OnePacket.{StopsBefore, TakesPacketOf}
+use Rattle.packet_file.specs.OnePacket.{StopsBefore}
+use Rattle.packet_file.specs.TakenPacket.{TakesPacketOf}
 use Rattle.packet_file.specs.OneReading.Stop.{End, Enough, Failed, Bad}
 
 -- the bytes of packets, with one more

@@ -5,6 +5,7 @@ pub mod Faults
 pub mod Taking
 pub mod OneReading
 pub mod OnePacket
+pub mod TakenPacket
 pub mod Files
 pub mod Laws
 pub mod FaultLaws

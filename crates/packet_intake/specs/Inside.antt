@@ -4,7 +4,8 @@ use Rattle.fec_base.specs.Outside.{Stream}
 use Rattle.packet_file.specs.Header.{HeaderFields}
 use Rattle.packet_file.specs.Packets.{Packet}
 use Rattle.packet_file.specs.OneReading.{stop_by}
-use Rattle.packet_file.specs.OnePacket.{StopsBefore, TakesPacketOf}
+use Rattle.packet_file.specs.OnePacket.{StopsBefore}
+use Rattle.packet_file.specs.TakenPacket.{TakesPacketOf}
 use Rattle.packet_intake.specs.declared.refusal.IntakeRefusal.{IntakeRefusal}
 use Rattle.packet_intake.specs.declared.refusal.IntakeRefusal.TheVariants.{File, Taker}
 

@@ -2,7 +2,8 @@
 ghost use Rattle.std.specs.Prelude.{◌≡◌, ◌≤◌, ◌+◌, List, length, IfErr, IfOk, Ok, false, true};
 ghost use Rattle.fec_base.specs.Outside.{stream};
 ghost use Rattle.packet_file.specs.Packets.{Packet};
-ghost use Rattle.packet_file.specs.OnePacket.{StopsBefore, TakesPacketOf};
+ghost use Rattle.packet_file.specs.OnePacket.{StopsBefore};
+ghost use Rattle.packet_file.specs.TakenPacket.{TakesPacketOf};
 ghost use Rattle.packet_file.specs.OneReading.Stop.{End};
 ghost use Rattle.packet_intake.specs.Intake.{RefusesPackets, TakesAll};
 ghost use Rattle.packet_intake.specs.Inside.{RefusesOne};

@@ -8,7 +8,8 @@ use Rattle.packet_file.specs.Header.{HeaderFields}
 use Rattle.packet_file.specs.Packets.{Packet}
 use Rattle.packet_file.specs.Files.{upgraded}
 use Rattle.packet_file.specs.OneReading.{Reads, Stop, stop_by}
-use Rattle.packet_file.specs.OnePacket.{StopsBefore, TakesPacketOf}
+use Rattle.packet_file.specs.OnePacket.{StopsBefore}
+use Rattle.packet_file.specs.TakenPacket.{TakesPacketOf}
 use Rattle.packet_file.specs.OneReading.Stop.{Enough}
 use Rattle.packet_file.specs.declared.fault.FileFault.{FileFault}
 use Rattle.packet_file.specs.declared.fault.FileFault.TheVariants.{BadPadding}
