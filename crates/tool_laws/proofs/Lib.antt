@@ -23,3 +23,4 @@ mod CleanDecodes
 mod EncodedThenDecoded
 mod Lossy
 pub mod CleanFrames
+mod Upgraded

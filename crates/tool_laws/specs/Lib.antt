@@ -4,3 +4,4 @@ pub mod RunLaws
 pub mod PerfLaws
 pub mod LossLaws
 pub mod FrameLaws
+pub mod UpgradeLaws

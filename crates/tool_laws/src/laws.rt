@@ -11,6 +11,7 @@ ghost use Rattle.tool_laws.specs.RoundTrip.{GivenBackWithoutNullWords, NeverDeco
 ghost use Rattle.tool_laws.specs.RoundTrip.{NeverToldWrong, OutcomesGoBySet};
 ghost use Rattle.tool_laws.specs.RunLaws.{ChosenAreDecoded, EncodedIsDecoded, ObjectIsEncoded};
 ghost use Rattle.tool_laws.specs.RunLaws.{PacketFileIsDecoded, PacketFileIsPassed};
+ghost use Rattle.tool_laws.specs.UpgradeLaws.{UpgradeDecodesAlike, UpgradeWritesPacketFile};
 
 use datagram_pass::datagrams_are_passed;
 use loss_runs::each_run_has_a_result;
@@ -195,6 +196,16 @@ pub fn what_is_left_is_never_decoded_wrong()
     null_words_follow_the_closure();
     null_words_hold_a_source_symbol();
     null_words_show_what_is_open();
+}
+
+/// What an `upgrade` writes is the packet file of version 2 with the packets of the file that it
+/// read, one by one. So `decode` of it comes to the same as of that file: each block comes out
+/// alike, the object and the report are the same, and so are the places that are told of.
+pub fn what_is_upgraded_decodes_alike()
+    ensures upgraded { UpgradeWritesPacketFile }
+    ensures decoded { UpgradeDecodesAlike }
+{
+    headers_and_packets_have_one_spelling();
 }
 
 /// A `frame` of a stream of datagrams, and an `unframe` of their frames, refuses nothing, within the
