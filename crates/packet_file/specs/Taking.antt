@@ -15,5 +15,6 @@ abbrev pub packet_most_by : Version → ℕ → ℕ
 packet_most_by One len = 4 + len
 packet_most_by Two len = 6 + len
 
+-- how many bytes a packet of the file has at most
 abbrev pub packet_most : HeaderFields → ℕ
 packet_most h = packet_most_by h.version h.oti.symbol

@@ -16,8 +16,8 @@ pub enum Pass {
     /// A line for the header, and then a line for each packet. It has the packet's number from 0
     /// up, its identifier, and its first 16 bytes in lower-case hexadecimal.
     Show,
-    /// The packet file in version 2: the header, and then each packet, without its padding. A packet
-    /// whose padding isn't zero is refused.
+    /// The packet file in version 2: the header, and then each packet, without its padding. A
+    /// packet whose padding isn't zero is refused.
     Upgrade,
 }
 

@@ -46,8 +46,8 @@ RefusesPass pass most input input_now (File fault) out =
     PassEnds pass most input input_now (early.File fault) out
 RefusesPass pass most input input_now _ out = ⊥
 
--- what a `lose`, a `show` or an `upgrade` does; where the output fails, nothing is taken behind what
--- it was to take last
+-- what a `lose`, a `show` or an `upgrade` does; where the output fails, nothing is taken behind
+-- what it was to take last
 abbrev pub IsPassRun : Pass → ℕ → Streams → Streams → Status → Type 0
 IsPassRun pass most before after ended =
     EndsBy (OrRefusal (PassDue pass most before.input after.input)

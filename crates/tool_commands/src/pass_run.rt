@@ -14,9 +14,10 @@ use std::alloc::Global;
 use tool_base::{Refusal, Status, conclude, put_number, put_numbered, put_text, refuse, tell};
 
 /// Passes once over the packet file that the input is, of at most `most` packets, and writes it
-/// without the packets that are lost, shows it, or writes it in version 2. One packet is in memory at a time, and each
-/// packet's text is handed over before a byte behind the packet is asked for. A pass that loses
-/// packets reports how many it read and how many it kept, and one that upgrades how many there are.
+/// without the packets that are lost, shows it, or writes it in version 2. One packet is in memory
+/// at a time, and each packet's text is handed over before a byte behind the packet is asked for. A
+/// pass that loses packets reports how many it read and how many it kept, and one that upgrades how
+/// many there are.
 pub fn run_pass<S: Source, K: Sink, R: Sink>(
     alloc: Global,
     what: Pass,

@@ -23,8 +23,8 @@ pub record WroteUpgrade (most : ℕ) (bytes made : List ℕ) : Type 0 where
   pub empty : first.output.bytes ≡ Some []
   pub wrote : last.output.bytes ≡ Some made
 
--- it read a packet file whose padding is zero, and wrote the one of version 2 with the same packets,
--- one by one; where that was of version 2 it is the same file
+-- it read a packet file whose padding is zero, and wrote the one of version 2 with the same
+-- packets, one by one; where that was of version 2 it is the same file
 pub record IsUpgradeOf (most : ℕ) (bytes made : List ℕ) : Type 0 where
   pub header : HeaderFields
   pub packets : List Packet
@@ -33,13 +33,15 @@ pub record IsUpgradeOf (most : ℕ) (bytes made : List ℕ) : Type 0 where
   pub wrote : IsPacketFile (upgraded header) most packets made
   pub unchanged : header.version ≡ Two → made ≡ bytes
 
+-- what an `upgrade` wrote is that of what it read
 abbrev pub UpgradeWritesPacketFile : Type 0
 UpgradeWritesPacketFile = (most : ℕ) (bytes made : List ℕ) → WroteUpgrade most bytes made
     → IsUpgradeOf most bytes made
 
--- what an `upgrade` wrote decodes as what it read, whatever the limits of draws and packets are: its
--- blocks come out alike, so that the object and the report are the same; and where it is known what
--- is told, it is told of the same places, and unless some block is contradicted of the same symbols
+-- what an `upgrade` wrote decodes as what it read, whatever the limits of draws and packets are:
+-- its blocks come out alike, so that the object and the report are the same; and where it is known
+-- what is told, it is told of the same places, and unless some block is contradicted of the same
+-- symbols
 abbrev pub UpgradeDecodesAlike : Type 0
 UpgradeDecodesAlike = (read : ℕ) (bytes made : List ℕ) (draws other_draws : Option ℕ)
     (early : Bool) (most other_most : ℕ) (told : Option (List Telling))

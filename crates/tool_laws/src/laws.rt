@@ -161,8 +161,8 @@ pub fn what_was_encoded_is_decoded()
 }
 
 /// A `lose`, a `show` or an `upgrade` of a packet file refuses nothing, within the limits and where
-/// nothing outside fails, and an `upgrade` where the padding of its packets is zero: the text of its
-/// header and of its packets is written and reported; or memory lacks.
+/// nothing outside fails, and an `upgrade` where the padding of its packets is zero: the text of
+/// its header and of its packets is written and reported; or memory lacks.
 pub fn packet_files_are_passed()
     ensures { PacketFileIsPassed }
 {
