@@ -61,8 +61,8 @@ module _ (h : HeaderFields) (matrices : List Matrix) (bytes : List ℕ)
       record {
         id = of;
         long = symbol.long;
-        padded = padded_symbol h header bytes ready.long ready.padding b inside m k_is word encodes_block
-            esi lt of;
+        padded = padded_symbol h header bytes ready.long ready.padding b inside m k_is word
+            encodes_block esi lt of;
       }
 
 -- sums of as many equal terms

@@ -1,7 +1,8 @@
 -- The symbols of a block's word: the object's last source symbol is zero behind the object.
 use Rattle.std.proofs.Common.{◌≡◌, ℕ, ◌+◌, ◌-◌, ◌*◌, ◌<◌, Bool, true, false, List, []}
 use Rattle.std.proofs.Common.{if◌then◌else◌, length, get_or, take, drop, sum, refl, sym, ap, ◌∙◌}
-use Rattle.std.proofs.Common.{subst, arith, eqb-true, ◌==◌, ◌&&◌, add-mul, drop-drop, length-drop, get_or-take}
+use Rattle.std.proofs.Common.{subst, arith, eqb-true, ◌==◌, ◌&&◌, add-mul, drop-drop}
+use Rattle.std.proofs.Common.{length-drop, get_or-take}
 use Rattle.std.specs.Int.{div_ceil}
 use Rattle.std.proofs.lemmas.List.{drop_all, take_all}
 use Rattle.std.proofs.lemmas.List.Elements.{All-get_or}
@@ -11,8 +12,8 @@ use Rattle.fec_base.specs.Symbol.{IsSymbol, zero_symbol}
 use Rattle.sparse_rows.specs.Codeword.{IsEncoded}
 use Rattle.sparse_rows.proofs.Symbols.{symbol_is}
 use Rattle.packet_file.specs.Header.{HeaderFields, IsHeader, source_counts}
-use Rattle.packet_file.specs.Packets.{IsIdOf, IsZeroFrom, is_last, last_len, payload_by, payload_len}
-use Rattle.packet_file.specs.Packets.{true_len}
+use Rattle.packet_file.specs.Packets.{IsIdOf, IsZeroFrom, is_last, last_len, payload_by}
+use Rattle.packet_file.specs.Packets.{payload_len, true_len}
 use Rattle.packet_file.specs.declared.version.Version.{Version}
 use Rattle.packet_file.specs.declared.version.Version.TheVariants.{One, Two}
 use Rattle.packet_file.proofs.Lengths.{last_in_range, some_bytes}

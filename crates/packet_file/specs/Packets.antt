@@ -40,6 +40,7 @@ abbrev pub payload_by : Version → ℕ → ℕ → ℕ
 payload_by One len true_one = len
 payload_by Two len true_one = true_one
 
+-- how many bytes of a symbol of the file its packet has
 abbrev pub payload_len : HeaderFields → PacketId → ℕ
 payload_len h id = payload_by h.version h.oti.symbol (true_len h id)
 

@@ -13,6 +13,7 @@ abbrev pub lead_by : Version → ℕ → ℕ
 lead_by One len = 4 + len
 lead_by Two len = 6
 
+-- how many bytes of a piece of the file are read first
 abbrev pub lead_len : HeaderFields → ℕ
 lead_len h = lead_by h.version h.oti.symbol
 

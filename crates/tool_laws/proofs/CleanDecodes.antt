@@ -91,7 +91,8 @@ module _ (header_one : HeaderIsOne) (packet_one : PacketIsOne)
       let (behind, mid_is, bytes_are) = taken_of bytes mid (header_bytes other)
       (subst (λ (l : Option (List ℕ)). Consumes l mid (header_bytes other)) known opens.taken)
       in
-      let (rest, left_is, behind_is) = taken_of behind after.input.bytes (spelled other came ++ piece)
+      let (rest, left_is, behind_is) = taken_of behind after.input.bytes
+      (spelled other came ++ piece)
       (subst (λ (l : Option (List ℕ)). Consumes l after.input.bytes (spelled other came ++ piece))
       mid_is stands.taken) in
       let taken : bytes ≡ (header_bytes other ++ spelled other came) ++ (piece ++ rest) =
@@ -216,8 +217,8 @@ module _ (header_one : HeaderIsOne) (packet_one : PacketIsOne)
     chosen_decoded = ⊎_elim
         (λ (memory : ended ≡ status.Memory). inl memory)
         (λ (d : ComesOut limit early most before after watch watch_now ended). inr (written d))
-        (decided header_one packet_one no_bad h came (header_bytes h ++ spelled h came) limit early most
-        before after watch watch_now came_file run.bytes_are run.code run.codes run.clean
+        (decided header_one packet_one no_bad h came (header_bytes h ++ spelled h came) limit
+        early most before after watch watch_now came_file run.bytes_are run.code run.codes run.clean
         run.heard ended run.run)
 
   -- and all packets give it
@@ -233,6 +234,6 @@ module _ (header_one : HeaderIsOne) (packet_one : PacketIsOne)
       (bytes_decode ended d) all holds same source in
       let is : ended ≡ status.Done = sym d.status ∙ whole.0 in
       inr (is, writes_object is c))
-      (decided header_one packet_one no_bad h came (header_bytes h ++ spelled h came) limit early most before
-      after watch watch_now came_file run.bytes_are run.code run.codes run.clean run.heard ended
-      run.run)
+      (decided header_one packet_one no_bad h came (header_bytes h ++ spelled h came) limit early
+      most before after watch watch_now came_file run.bytes_are run.code run.codes run.clean
+      run.heard ended run.run)

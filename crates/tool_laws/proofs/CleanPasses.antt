@@ -146,7 +146,8 @@ module _ (header_one : HeaderIsOne) (packet_one : PacketIsOne)
         each = stands.each;
         few = stands.few;
         bytes_are = sym read ∙ ap (λ (l : List ℕ). header_bytes other ++ l)
-            (ap (λ (l : List ℕ). spelled other came ++ l) stands.stopped.0 ∙ append-nil (spelled other came));
+            (ap (λ (l : List ℕ). spelled other came ++ l) stands.stopped.0
+            ∙ append-nil (spelled other came));
       } in
       let (header_is, packets_are) = file_one header_one packet_one other h most most came
       packets bytes file_now file in

@@ -157,13 +157,14 @@ module _ (header_one : HeaderIsOne) (packet_one : PacketIsOne) (h : HeaderFields
     (draws limit : Option ℕ) (object : List ℕ) (sent came : List Packet)
     (are_sent : AreSent h draws object sent) (chosen : AreAmong came sent) where
   same_bytes : spelled h sent ≡ packets h are_sent.encoding.words
-  same_bytes = append_cancel_left (header_bytes h) (spelled h sent) (packets h are_sent.encoding.words)
+  same_bytes = append_cancel_left (header_bytes h) (spelled h sent)
+      (packets h are_sent.encoding.words)
       (sym are_sent.packets_are.bytes_are ∙ are_sent.encoding.file_is)
 
   each_came : All (IsOfWords are_sent.encoding.words) came
   each_came k d lt = of_words header_one packet_one h draws object are_sent.encoding.words
-      are_sent.long are_sent.encoding.header are_sent.encoding.encoded sent are_sent.packets_are.each same_bytes
-      (get_or came k d) (chosen k d lt)
+      are_sent.long are_sent.encoding.header are_sent.encoding.encoded sent
+      are_sent.packets_are.each same_bytes (get_or came k d) (chosen k d lt)
 
   module _ (b : ℕ) (inside : b < length (source_counts h)) where
     among : b < length are_sent.encoding.words
@@ -241,8 +242,8 @@ module _ (header_one : HeaderIsOne) (packet_one : PacketIsOne) (h : HeaderFields
         short ∙ forced.codeword word (fits m same) in
         subst (λ (l : List ℕ). Contains sent (packet_at b e l)) is
         (has_each header_one packet_one h draws object are_sent.encoding.words
-        are_sent.long are_sent.encoding.header are_sent.encoding.encoded sent are_sent.packets_are.each
-        same_bytes b e among short)
+        are_sent.long are_sent.encoding.header are_sent.encoding.encoded sent
+        are_sent.packets_are.each same_bytes b e among short)
 
     -- where each packet of the file came, each of its positions did
     module _ (all : AreAmong sent came) where
@@ -252,8 +253,9 @@ module _ (header_one : HeaderIsOne) (packet_one : PacketIsOne) (h : HeaderFields
           position_came b e symbol came (All-contains (Contains came) sent (packet_at b e symbol)
           all
           (has_each header_one packet_one h draws object are_sent.encoding.words
-          are_sent.long are_sent.encoding.header are_sent.encoding.encoded sent are_sent.packets_are.each
-          same_bytes b e among (omega (arith, below, block.encoded.codeword.count))))
+          are_sent.long are_sent.encoding.header are_sent.encoding.encoded sent
+          are_sent.packets_are.each same_bytes b e among
+          (omega (arith, below, block.encoded.codeword.count))))
 
       source_all : ClosureHolds → HoldsSource block.matrix (arrivals_of b came)
       source_all law e below = law block.matrix (positions (arrivals_of b came)) e

@@ -84,8 +84,8 @@ module _ (header_one : HeaderIsOne) (packet_one : PacketIsOne) (limit : Option �
   decoded_by : (h : HeaderFields) → IsHeader h → (came : List Packet) → All (IsPacketOf h) came
       → (left : Option (List ℕ)) (told told_now : Option (List Telling)) (outcomes : List Outcome)
       (made report : List ℕ)
-      → Decodes limit early most (Some (header_bytes h ++ spelled h came)) left told told_now outcomes
-      made report → IsDecoded limit early h came outcomes made
+      → Decodes limit early most (Some (header_bytes h ++ spelled h came)) left told told_now
+      outcomes made report → IsDecoded limit early h came outcomes made
   decoded_by h header came each left told told_now outcomes made report d =
       let bytes : List ℕ = header_bytes h ++ spelled h came in
       let first : IsRead limit early most bytes left d.header d.code d.packets =
@@ -122,8 +122,8 @@ module _ (header_one : HeaderIsOne) (packet_one : PacketIsOne) (limit : Option �
       (are_sent : AreSent h draws object sent) (chosen : AreAmong came sent)
       (left : Option (List ℕ)) (told told_now : Option (List Telling)) (outcomes : List Outcome)
       (made report : List ℕ)
-      (decodes : Decodes limit early most (Some (header_bytes h ++ spelled h came)) left told told_now
-      outcomes made report) where
+      (decodes : Decodes limit early most (Some (header_bytes h ++ spelled h came)) left told
+      told_now outcomes made report) where
     of_file : All (IsPacketOf h) came
     of_file k d lt = All-contains (IsPacketOf h) sent (get_or came k d) are_sent.packets_are.each
         (chosen k d lt)

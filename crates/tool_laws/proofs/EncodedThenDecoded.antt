@@ -79,8 +79,8 @@ module _ (header_one : HeaderIsOne) (packet_one : PacketIsOne) (no_bad : Packets
             encoding.header encoding.encoded,
         enough,
       ) in
-      all_decoded header_one packet_one no_bad h draws limit object sent sent early most before after watch
-      watch_now ended are_sent.0 (All-contains_itself sent) few
+      all_decoded header_one packet_one no_bad h draws limit object sent sent early most before
+      after watch watch_now ended are_sent.0 (All-contains_itself sent) few
       (subst (λ (bytes : List ℕ). IsCleanDecode h bytes limit early most before after watch
       watch_now ended) are_sent.1 run) holds same source (All-contains_itself sent)
 

@@ -22,5 +22,5 @@ mod DecodedFiles
 mod CleanDecodes
 mod EncodedThenDecoded
 mod Lossy
-mod UpgradedFiles
 pub mod CleanFrames
+mod Upgraded

@@ -134,7 +134,8 @@ module _ (header_one : HeaderIsOne) (packet_one : PacketIsOne) (no_bad : Packets
         let (own, packets_are) = file_one header_one packet_one h (header_for o (length object))
         read (length packets) packets_read packets file whole file_is in
         let chosen : AreAmong kept packets = subst (AreAmong kept) packets_are among in
-        let left_is : left ≡ header_bytes (header_for o (length object)) ++ spelled (header_for o (length object)) kept =
+        let left_is : left ≡ header_bytes (header_for o (length object))
+        ++ spelled (header_for o (length object)) kept =
         rest.bytes_are ∙ ap (λ (k : HeaderFields). header_bytes k ++ spelled k kept) own in
         let clean = subst (λ (bytes : List ℕ). IsCleanDecode (header_for o (length object)) bytes
         limit early most before after watch watch_now ended) left_is run in
@@ -146,7 +147,7 @@ module _ (header_one : HeaderIsOne) (packet_one : PacketIsOne) (no_bad : Packets
         (λ (w : (ended ≡ status.Undetermined) × Keeps before.output.bytes after.output.bytes
         × (¬ LackNullWords (header_for o (length object)) o.shape.draws kept)). inr (w.0, w.1))
         out))
-        (chosen_decoded header_one packet_one no_bad (header_for o (length object)) o.shape.draws limit
-        object packets kept early most before after watch watch_now ended are_sent chosen
+        (chosen_decoded header_one packet_one no_bad (header_for o (length object)) o.shape.draws
+        limit object packets kept early most before after watch watch_now ended are_sent chosen
         (omega (arith, fewer_kept, ap length packets_are, few, enough)) clean
         law fewer same source)

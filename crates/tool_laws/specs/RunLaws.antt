@@ -121,5 +121,6 @@ abbrev pub PacketFileIsPassed : Type 0
 PacketFileIsPassed = (pass : Pass) (h : HeaderFields) (packets : List Packet) (bytes : List ℕ)
     (most : ℕ) (before after : Streams) (ended : Status)
     → IsPacketFile h most packets bytes → All (IsFitFor pass h) packets
-    → before.input.bytes ≡ Some bytes → NothingFails before after → IsPassRun pass most before after ended
+    → before.input.bytes ≡ Some bytes → NothingFails before after
+    → IsPassRun pass most before after ended
     → OrMemory ended ((ended ≡ status.Done) × WritesText pass h packets before after)

@@ -11,7 +11,7 @@ ghost use Rattle.tool_laws.specs.RoundTrip.{GivenBackWithoutNullWords, NeverDeco
 ghost use Rattle.tool_laws.specs.RoundTrip.{NeverToldWrong, OutcomesGoBySet};
 ghost use Rattle.tool_laws.specs.RunLaws.{ChosenAreDecoded, EncodedIsDecoded, ObjectIsEncoded};
 ghost use Rattle.tool_laws.specs.RunLaws.{PacketFileIsDecoded, PacketFileIsPassed};
-ghost use Rattle.tool_laws.specs.UpgradeLaws.{UpgradeKeepsPackets, UpgradedDecodesAlike};
+ghost use Rattle.tool_laws.specs.UpgradeLaws.{UpgradeDecodesAlike, UpgradeWritesPacketFile};
 
 use datagram_pass::datagrams_are_passed;
 use loss_runs::each_run_has_a_result;
@@ -161,8 +161,8 @@ pub fn what_was_encoded_is_decoded()
 }
 
 /// A `lose`, a `show` or an `upgrade` of a packet file refuses nothing, within the limits and where
-/// nothing outside fails, and an `upgrade` where the padding of its packets is zero: the text of its
-/// header and of its packets is written and reported; or memory lacks.
+/// nothing outside fails, and an `upgrade` where the padding of its packets is zero: the text of
+/// its header and of its packets is written and reported; or memory lacks.
 pub fn packet_files_are_passed()
     ensures { PacketFileIsPassed }
 {
@@ -198,20 +198,19 @@ pub fn what_is_left_is_never_decoded_wrong()
     null_words_show_what_is_open();
 }
 
-/// What an `upgrade` writes is the packet file of version 2 of the packets that it read, one by one.
-/// So it decodes as what was read does: the blocks come out alike, and the object, the report, the
-/// status and the places that are told of are the same; and the symbols that are told, unless some
-/// block is contradicted.
-pub fn upgraded_files_decode_alike()
-    ensures packets { UpgradeKeepsPackets }
-    ensures decoded { UpgradedDecodesAlike }
+/// What an `upgrade` writes is the packet file of version 2 with the packets of the file that it
+/// read, one by one. So `decode` of it comes to the same as of that file: each block comes out
+/// alike, the object and the report are the same, and so are the places that are told of.
+pub fn what_is_upgraded_decodes_alike()
+    ensures upgraded { UpgradeWritesPacketFile }
+    ensures decoded { UpgradeDecodesAlike }
 {
     headers_and_packets_have_one_spelling();
 }
 
-/// A `frame` of a stream of datagrams, and an `unframe` of their frames, refuses nothing, within
-/// the limits and where nothing outside fails: what goes for the datagrams is written, and their
-/// number is reported; or memory lacks.
+/// A `frame` of a stream of datagrams, and an `unframe` of their frames, refuses nothing, within the
+/// limits and where nothing outside fails: what goes for the datagrams is written, and their number
+/// is reported; or memory lacks.
 pub fn datagrams_are_run()
     ensures { DatagramsAreRun }
 {

@@ -25,8 +25,9 @@ loop-block-preserved g c =
           (held c.put_block.new.sink) c.loop-block.staging.bytes c.put_block.new.staging.bytes
           (block_packets c.args.header.now b word)) (c.in_ok-word.ensures.word words are)
           c.in_ok-put_block.ensures.passed in
-          pieces_pass (block_packets c.args.header.now) (held c.args.sink.now) (held c.loop-block.sink)
-          (held c.put_block.new.sink) c.args.staging.now.bytes c.loop-block.staging.bytes words
+          pieces_pass (block_packets c.args.header.now) (held c.args.sink.now)
+          (held c.loop-block.sink) (held c.put_block.new.sink) c.args.staging.now.bytes
+          c.loop-block.staging.bytes words
           b [] inside (c.loop-block.invariant.passed words are)
           c.put_block.new.staging.bytes second;
       later = search rules;
@@ -38,7 +39,8 @@ returns-in_err-word-clause-memory g c words are _ =
     record {
       part = packets c.args.header.now (take b words);
       passed = c.loop-block.invariant.passed words are;
-      rest = pieces_from (block_packets c.args.header.now) (0 + length (take b words)) (drop b words);
+      rest = pieces_from (block_packets c.args.header.now) (0 + length (take b words))
+          (drop b words);
       whole = pieces_front (block_packets c.args.header.now) words b;
     }
 
@@ -55,7 +57,8 @@ returns-in_err-put_block-clause-cut g c words are _ =
       are.counted,
     ) in
     let second = subst (λ (word : List (List ℕ)). AppendsFront (held c.loop-block.sink)
-    (held c.put_block.new.sink) (c.loop-block.staging.bytes ++ block_packets c.args.header.now b word))
+    (held c.put_block.new.sink)
+    (c.loop-block.staging.bytes ++ block_packets c.args.header.now b word))
     (c.in_ok-word.ensures.word words are) c.in_err-put_block.ensures.cut in
     pieces_cut (block_packets c.args.header.now) (held c.args.sink.now) (held c.loop-block.sink)
     (held c.put_block.new.sink) c.args.staging.now.bytes c.loop-block.staging.bytes words b []

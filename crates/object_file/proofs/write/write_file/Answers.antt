@@ -7,7 +7,8 @@ use Rattle.object_file.proofs.write.write_file.Goals as goal
 pub returns-in_err-write_header-clause-cut : goal.returns-in_err-write_header-clause-cut
 returns-in_err-write_header-clause-cut g c words _ _ =
     header_cut (g.K.Sink.held c.args.sink.now) (g.K.Sink.held c.write_header.new.sink)
-    (header_bytes c.args.header.now) (packets c.args.header.now words) c.in_err-write_header.ensures.cut
+    (header_bytes c.args.header.now) (packets c.args.header.now words)
+    c.in_err-write_header.ensures.cut
 
 pub returns-in_err-put_blocks-clause-cut : goal.returns-in_err-put_blocks-clause-cut
 returns-in_err-put_blocks-clause-cut g c words are failed =
@@ -15,8 +16,8 @@ returns-in_err-put_blocks-clause-cut g c words are failed =
     let p = err_from_is_err_and c.from_residual-in_err-put_blocks.result
     c.from_residual-in_err-put_blocks.ensures.1 in
     rest_cut (held c.args.sink.now) (held c.write_header.new.sink) (held c.put_blocks.new.sink)
-    c.args.staging.now.bytes (header_bytes c.args.header.now) (packets c.args.header.now words) c.requires.empty
-    c.in_ok-write_header.ensures.written
+    c.args.staging.now.bytes (header_bytes c.args.header.now)
+    (packets c.args.header.now words) c.requires.empty c.in_ok-write_header.ensures.written
     (c.in_err-put_blocks.ensures.cut words are (cc (p.1, p.2, failed)))
 
 pub returns-in_err-put_blocks-clause-memory : goal.returns-in_err-put_blocks-clause-memory
@@ -25,8 +26,8 @@ returns-in_err-put_blocks-clause-memory g c words are failed =
     let p = err_from_is_err_and c.from_residual-in_err-put_blocks.result
     c.from_residual-in_err-put_blocks.ensures.1 in
     rest_part (held c.args.sink.now) (held c.write_header.new.sink) (held c.put_blocks.new.sink)
-    c.args.staging.now.bytes (header_bytes c.args.header.now) (packets c.args.header.now words) c.requires.empty
-    c.in_ok-write_header.ensures.written
+    c.args.staging.now.bytes (header_bytes c.args.header.now)
+    (packets c.args.header.now words) c.requires.empty c.in_ok-write_header.ensures.written
     c.put_blocks.new.staging.bytes (c.in_err-put_blocks.ensures.memory words are
     (cc (p.1, p.2, failed)))
 
@@ -34,8 +35,8 @@ pub returns-in_err-flush-clause-cut : goal.returns-in_err-flush-clause-cut
 returns-in_err-flush-clause-cut g c words are _ =
     let held = g.K.Sink.held in
     last_cut (held c.args.sink.now) (held c.write_header.new.sink) (held c.put_blocks.new.sink)
-    c.args.staging.now.bytes (header_bytes c.args.header.now) (packets c.args.header.now words) c.requires.empty
-    c.in_ok-write_header.ensures.written
+    c.args.staging.now.bytes (header_bytes c.args.header.now)
+    (packets c.args.header.now words) c.requires.empty c.in_ok-write_header.ensures.written
     (held c.flush.new.sink) c.put_blocks.new.staging.bytes (c.in_ok-put_blocks.ensures.passed words
     are) c.in_err-flush.ensures.cut
 
@@ -43,7 +44,7 @@ pub returns-clause-written : goal.returns-clause-written
 returns-clause-written g c words are =
     let held = g.K.Sink.held in
     all_written (held c.args.sink.now) (held c.write_header.new.sink) (held c.put_blocks.new.sink)
-    c.args.staging.now.bytes (header_bytes c.args.header.now) (packets c.args.header.now words) c.requires.empty
-    c.in_ok-write_header.ensures.written
+    c.args.staging.now.bytes (header_bytes c.args.header.now)
+    (packets c.args.header.now words) c.requires.empty c.in_ok-write_header.ensures.written
     (held c.flush.new.sink) c.put_blocks.new.staging.bytes (c.in_ok-put_blocks.ensures.passed words
     are) c.in_ok-flush.ensures.appended
