@@ -67,10 +67,12 @@ module _ (fewer : NullWordOfSubset) (m : Matrix) (len : ℕ) (word : List (List 
     -- nor then have all
     peeled_lacks : (p : ℕ) → IsNeeded m (arrivals_of len word kept) p
         → ¬ HasNullWord m (is_in kept)
-    peeled_lacks p needed null = needed_lacks p needed (null.0,
-    shorter m kept p (length kept) null.0
-    (omega (arith, needed.within, length_arrivals len word kept))
-    (whole_prefix m kept null.0 null.1))
+    peeled_lacks p needed null = needed_lacks p needed (
+      null.0,
+      shorter m kept p (length kept) null.0
+          (omega (arith, needed.within, length_arrivals len word kept))
+          (whole_prefix m kept null.0 null.1),
+    )
 
     -- the least number of them is no greater than what peeling needed
     least_within : (p : ℕ) (l : RunLeast) → IsNeeded m (arrivals_of len word kept) p
@@ -80,32 +82,32 @@ module _ (fewer : NullWordOfSubset) (m : Matrix) (len : ℕ) (word : List (List 
     least_within p (Prefix q) needed is = (q, refl, is.1.least p (needed_lacks p needed))
 
     module _ (law : UndeterminedByNullWord) (some : 1 ≤ len) (codeword : IsCodeword m len word)
-        where
-      -- where all of them have a null word the run ends as undetermined
-      never_ends : (e : RunEnd) → IsEnd m len (take m.k word) (arrivals_of len word kept) e
-          → HasNullWord m (is_in kept) → e ≡ Undetermined
-      never_ends (Peeled p) ends null = absurd (peeled_lacks p ends null)
-      never_ends Solved ends null = absurd (not_both m len (take m.k word)
-          (arrivals_of len word kept) ends.1
-          ((law m len (arrivals_of len word kept) word shape some
-          (arrivals_fit m len word kept codeword)).1 (null.0, null_arrived kept null.0 null.1)))
-      never_ends Undetermined ends null = refl
+      where
+        -- where all of them have a null word the run ends as undetermined
+        never_ends : (e : RunEnd) → IsEnd m len (take m.k word) (arrivals_of len word kept) e
+            → HasNullWord m (is_in kept) → e ≡ Undetermined
+        never_ends (Peeled p) ends null = absurd (peeled_lacks p ends null)
+        never_ends Solved ends null = absurd (not_both m len (take m.k word)
+            (arrivals_of len word kept) ends.1
+            ((law m len (arrivals_of len word kept) word shape some
+            (arrivals_fit m len word kept codeword)).1 (null.0, null_arrived kept null.0 null.1)))
+        never_ends Undetermined ends null = refl
 
-      -- and where it does all of them have one
-      undetermined_has : IsEnd m len (take m.k word) (arrivals_of len word kept) Undetermined
-          → HasNullWord m (is_in kept)
-      undetermined_has ends =
-          let null = (law m len (arrivals_of len word kept) word shape some
-          (arrivals_fit m len word kept codeword)).0 ends.1 in (
-            null.0,
-            null_kept kept null.0 null.1,
-          )
+        -- and where it does all of them have one
+        undetermined_has : IsEnd m len (take m.k word) (arrivals_of len word kept) Undetermined
+            → HasNullWord m (is_in kept)
+        undetermined_has ends =
+            let null = (law m len (arrivals_of len word kept) word shape some
+            (arrivals_fit m len word kept codeword)).0 ends.1 in (
+              null.0,
+              null_kept kept null.0 null.1,
+            )
 
-      has_never : (l : RunLeast) → IsThreshold m true kept l → HasNullWord m (is_in kept)
-          → l ≡ Never
-      has_never Unasked is null = absurd (true≢false is)
-      has_never Never is null = refl
-      has_never (Prefix q) is null = absurd (prefix_lacks m kept shorter q is.1 null)
+        has_never : (l : RunLeast) → IsThreshold m true kept l → HasNullWord m (is_in kept)
+            → l ≡ Never
+        has_never Unasked is null = absurd (true≢false is)
+        has_never Never is null = refl
+        has_never (Prefix q) is null = absurd (prefix_lacks m kept shorter q is.1 null)
 
 -- ---- the laws
 
@@ -129,12 +131,12 @@ module _ (fewer : NullWordOfSubset) (same : ClosureHasSameNullWords) (source : N
       let least : IsThreshold m true kept result.least =
       subst (λ (b : Bool). IsThreshold m b kept result.least) asked run.least in (
         λ never. never_ends fewer m t.len word same source shorter shape kept law some
-        encoded.codeword result.end ends (subst (IsThreshold m true kept) never least).1,
+            encoded.codeword result.end ends (subst (IsThreshold m true kept) never least).1,
         λ undetermined. has_never fewer m t.len word same source shorter shape kept law some
-        encoded.codeword result.least least
-        (undetermined_has fewer m t.len word same source shorter shape kept law some
-        encoded.codeword
-        (subst (IsEnd m t.len (take m.k word) (arrivals_of t.len word kept)) undetermined ends)),
+            encoded.codeword result.least least
+            (undetermined_has fewer m t.len word same source shorter shape kept law some
+            encoded.codeword
+            (subst (IsEnd m t.len (take m.k word) (arrivals_of t.len word kept)) undetermined ends)),
       )
 
 pub other_columns_stay : OtherColumnsStay

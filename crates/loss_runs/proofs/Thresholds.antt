@@ -39,12 +39,15 @@ module _ (m : Matrix) (kept : List ℕ) where
   -- where all of them have none there is a least such number
   some_prefix : (¬ HasNullWord m (is_in kept)) → (p : ℕ) × IsLeastPrefix m kept p
   some_prefix none = ⊎_elim
-      (λ (f : (p : ℕ) × (p ≤ length kept) × IsLeast Lacks p). (f.0, record {
-        within = f.1;
-        none = f.2.0;
-        least = λ q lacks. ⊎_elim (λ (lt : q < f.0). absurd (f.2.1 q lt lacks))
-            (λ (le : f.0 ≤ q). le) (cases_lt q f.0);
-      }))
+      (λ (f : (p : ℕ) × (p ≤ length kept) × IsLeast Lacks p). (
+        f.0,
+        record {
+          within = f.1;
+          none = f.2.0;
+          least = λ q lacks. ⊎_elim (λ (lt : q < f.0). absurd (f.2.1 q lt lacks))
+              (λ (le : f.0 ≤ q). le) (cases_lt q f.0);
+        },
+      ))
       (λ (never : (q : ℕ) → q ≤ length kept → ¬ Lacks q). absurd (never (length kept) (omega arith)
       (λ null. none (null.0, prefix_whole m kept null.0 null.1))))
       (least Lacks lacks_or_not (length kept))
@@ -61,8 +64,11 @@ module _ (m : Matrix) (kept : List ℕ) where
   -- where some prefix has no null word, all of them have none
   pub prefix_lacks : ShorterPrefixHasNullWord → (p : ℕ) → IsLeastPrefix m kept p
       → ¬ HasNullWord m (is_in kept)
-  prefix_lacks shorter p is null = is.none (null.0, shorter m kept p (length kept) null.0 is.within
-      (whole_prefix m kept null.0 null.1))
+  prefix_lacks shorter p is null = is.none (
+    null.0,
+    shorter m kept p (length kept) null.0 is.within
+        (whole_prefix m kept null.0 null.1),
+  )
 
   -- and no second answer
   pub threshold_one : ShorterPrefixHasNullWord → LeastPrefixIsOne → (asked : Bool)
