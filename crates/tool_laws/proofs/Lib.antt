@@ -5,6 +5,7 @@ mod OneEncoding
 mod OneFirstNullWord
 mod OneOutcome
 mod OnePerf
+mod LeastPackets
 mod OneReading
 mod SentPackets
 mod SentSymbols
