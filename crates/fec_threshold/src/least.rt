@@ -37,7 +37,7 @@ fn halve(alloc: Global, code: &Code, order: &[u32]) -> Result<u32, NoMemory>
     let mut low = 0;
     let mut high = order.len();
     while low < high {
-        let middle = low + (high - low) / 2;
+        let middle = next_length(low, high, code.k() as usize);
         if has_null_word(alloc, code, &order[..middle])? {
             low = middle + 1;
         } else {
@@ -45,4 +45,18 @@ fn halve(alloc: Global, code: &Code, order: &[u32]) -> Result<u32, NoMemory>
         }
     }
     Ok(high as u32)
+}
+
+// The length of the prefix that is tried next: first the longest that is shorter than the source
+// block, since a short prefix leaves much to eliminate and is never one that determines; and then
+// the middle.
+fn next_length(low: usize, high: usize, k: usize) -> usize
+    requires { low < high }
+    ensures low { low ≤ result }
+    ensures high { result < high }
+{
+    if low < k && k <= high {
+        return k - 1;
+    }
+    low + (high - low) / 2
 }

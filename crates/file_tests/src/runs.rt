@@ -6,7 +6,7 @@ ghost use Rattle.loss_runs.specs.Plans.{IsPlan};
 
 use fec_base::MemSink;
 use loss_patterns::LossKind;
-use loss_runs::{LossRuns, RunEnd, RunPlan, RunResult, RunsRefusal, write_runs};
+use loss_runs::{LossRuns, RunEnd, RunLeast, RunPlan, RunResult, RunsRefusal, write_runs};
 use staircase::staircase;
 use std::alloc::Global;
 use std::process::Abort;
@@ -18,7 +18,7 @@ const LINES: &str = "code staircase k 3 n 7 entries 16 draws 12\n\
     runs 1 peeled 1 solved 0 undetermined 0\n";
 
 // One run with symbols of one byte and seed 1.
-fn plan(loss: LossKind, random: bool) -> RunPlan
+fn plan(loss: LossKind, random: bool, threshold: bool) -> RunPlan
     requires { IsLoss loss }
     ensures { IsPlan result }
 {
@@ -28,58 +28,61 @@ fn plan(loss: LossKind, random: bool) -> RunPlan
         random,
         runs: 1,
         seed: 1,
+        threshold,
     }
 }
 
-// The first run of the plan keeps so many symbols, and ends so.
+// The first run of the plan comes out so.
 fn check_run(
     rt: &impl Abort,
     alloc: Global,
     plan: &RunPlan,
-    kept: u32,
-    end: RunEnd,
+    wanted: RunResult,
 ) -> Result<(), Fail>
     requires { IsPlan plan.now }
 {
     let built = staircase(alloc, 3, 7, 3, 1, 100)?;
     let mut runs = LossRuns::new(alloc, built.code, plan)?;
-    assert!(rt; runs.run(alloc)? == (RunResult { kept, end }));
+    assert!(rt; runs.run(alloc)? == wanted);
     assert!(rt; runs.done() == 1);
     Ok(())
+}
+
+// The first run under this loss keeps so many symbols, ends so, and finds this least number where
+// it is asked for.
+fn check_runs(
+    rt: &impl Abort,
+    alloc: Global,
+    loss: LossKind,
+    random: bool,
+    wanted: RunResult,
+) -> Result<(), Fail>
+    requires { IsLoss loss }
+{
+    check_run(rt, alloc, &plan(loss, random, true), wanted)?;
+    let unasked = RunResult {
+        least: RunLeast::Unasked,
+        ..wanted
+    };
+    check_run(rt, alloc, &plan(loss, random, false), unasked)
+}
+
+// A run that keeps so many symbols, ends so, and finds this least number.
+const fn result(kept: u32, end: RunEnd, least: RunLeast) -> RunResult {
+    RunResult { kept, end, least }
 }
 
 #[test]
 fn runs_end_by_what_is_kept(rt: HostRuntime) -> Result<(), Fail> {
     let alloc = rt.alloc();
-    check_run(
-        &rt,
-        alloc,
-        &plan(LossKind::None, false),
-        7,
-        RunEnd::Peeled(3),
-    )?;
-    check_run(
-        &rt,
-        alloc,
-        &plan(LossKind::First(3), false),
-        4,
-        RunEnd::Solved,
-    )?;
-    check_run(
-        &rt,
-        alloc,
-        &plan(LossKind::First(6), false),
-        1,
-        RunEnd::Undetermined,
-    )?;
-    check_run(
-        &rt,
-        alloc,
-        &plan(LossKind::None, true),
-        7,
-        RunEnd::Peeled(4),
-    )?;
-    Ok(())
+    let peeled = result(7, RunEnd::Peeled(3), RunLeast::Prefix(3));
+    check_runs(&rt, alloc, LossKind::None, false, peeled)?;
+    let solved = result(4, RunEnd::Solved, RunLeast::Prefix(3));
+    check_runs(&rt, alloc, LossKind::First(3), false, solved)?;
+    let open = result(1, RunEnd::Undetermined, RunLeast::Never);
+    check_runs(&rt, alloc, LossKind::First(6), false, open)?;
+    let shuffled = result(7, RunEnd::Peeled(4), RunLeast::Prefix(4));
+    check_runs(&rt, alloc, LossKind::None, true, shuffled)
 }
 
 // A sink with this room takes this front of the lines.
@@ -94,7 +97,7 @@ fn check_lines(
     assert!(rt;
         write_runs(
             alloc,
-            &plan(LossKind::None, false),
+            &plan(LossKind::None, false, false),
             built.code,
             "staircase",
             built.draws,

@@ -202,6 +202,7 @@ const fn perf(shape: Shape, k: u32, n: u32) -> Option<Command> {
         random: true,
         runs: 1,
         run_seed: 1,
+        threshold: false,
     })
 }
 
@@ -210,6 +211,7 @@ fn perf_has_defaults(rt: HostRuntime) -> Result<(), Fail> {
     let alloc = rt.alloc();
     assert!(rt; read(alloc, &["perf"])? == perf(STAIRCASE, 1000, 1500));
     assert!(rt; read(alloc, &["perf", "--k=3"])? == perf(STAIRCASE, 3, 4));
+    assert!(rt; read(alloc, &["perf", "--k=3", "--threshold=no"])? == perf(STAIRCASE, 3, 4));
     let words = ["perf", "--k", "65536", "--order=random"];
     assert!(rt; read(alloc, words.as_slice())? == perf(STAIRCASE, 65_536, 65_536));
     Ok(())
@@ -230,6 +232,7 @@ fn each_option_of_perf_is_read(rt: HostRuntime) -> Result<(), Fail> {
         "--order=sent",
         "--runs=1000",
         "--run-seed=2147483646",
+        "--threshold=yes",
     ];
     let shape = Shape {
         codec: Codec::Triangle,
@@ -247,6 +250,7 @@ fn each_option_of_perf_is_read(rt: HostRuntime) -> Result<(), Fail> {
         random: false,
         runs: 1000,
         run_seed: 2_147_483_646,
+        threshold: true,
     };
     assert!(rt; read(rt.alloc(), words.as_slice())? == Some(wanted));
     Ok(())
@@ -346,6 +350,7 @@ fn options_that_are_not_the_commands_are_usage(rt: HostRuntime) -> Result<(), Fa
             &["encode", "--codec=2d-corner", "--n1=3"],
             &["encode", "--codec=2d-corner", "--max-n=11"],
             &["lose", "--draws=1"],
+            &["lose", "--threshold=yes"],
             &["lose", "--loss=none", "--loss=none"],
             &["show", "--loss=none"],
             &["show", "--seed=1"],
@@ -371,6 +376,7 @@ fn values_out_of_their_ranges_are_usage(rt: HostRuntime) -> Result<(), Fail> {
             &["decode", "--early="],
             &["decode", "--early", ""],
             &["decode", "--early", "--packets=3"],
+            &["perf", "--threshold=true"],
             &["lose", "--loss=even:1001"],
             &["lose", "--loss="],
             &["lose", "--seed=0"],

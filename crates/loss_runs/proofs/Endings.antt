@@ -13,14 +13,17 @@ use Rattle.sparse_rows.specs.NullWord.{IsNullWord}
 use Rattle.sparse_rows.specs.Fitting.{IsFitting, IsUndetermined}
 use Rattle.sparse_rows.specs.Determined.{HoldsSource, IsSource}
 use Rattle.null_witness.specs.Laws.{UndeterminedByNullWord}
+use Rattle.fec_threshold.specs.Laws.{LeastPrefixIsOne, ShorterPrefixHasNullWord}
 use Rattle.loss_runs.specs.Trials.{arrivals_of, kept_by, source_of}
 use Rattle.loss_runs.specs.Ends.{IsEnd, IsNeeded, NeverHolds}
 use Rattle.loss_runs.specs.Laws.{RunHasOneResult, RunHasResult}
 use Rattle.loss_runs.specs.declared.result.RunEnd.{RunEnd}
 use Rattle.loss_runs.specs.declared.result.RunEnd.TheVariants.{Peeled, Solved, Undetermined}
+use Rattle.loss_runs.specs.declared.result.RunLeast.{RunLeast}
 use Rattle.loss_runs.specs.declared.result.RunResult.{RunResult}
 use Rattle.loss_runs.proofs.NullWords.{null_or_none}
 use Rattle.loss_runs.proofs.Searches.{IsLeast, holds_or_not, least}
+use Rattle.loss_runs.proofs.Thresholds.{some_threshold, threshold_one}
 
 -- ---- a closure holds the source, or it doesn't
 
@@ -110,13 +113,14 @@ needed_same m arrivals p q first second =
     let ge : q ≤ p = needed_one m arrivals q p second first in
     omega arith
 
-not_both : (m : Matrix) (len : ℕ) (source : List (List ℕ)) (arrivals : List Arrival)
+pub not_both : (m : Matrix) (len : ℕ) (source : List (List ℕ)) (arrivals : List Arrival)
     → IsSource m len arrivals source → ¬ IsUndetermined m len arrivals
 not_both m len source arrivals is two =
     two.differ (is.only two.word two.word_fits ∙ sym (is.only two.other two.other_fits))
 
 module _ (m : Matrix) (len : ℕ) (source : List (List ℕ)) (arrivals : List Arrival) where
-  end_one : (a b : RunEnd) → IsEnd m len source arrivals a → IsEnd m len source arrivals b → a ≡ b
+  pub end_one : (a b : RunEnd) → IsEnd m len source arrivals a → IsEnd m len source arrivals b
+      → a ≡ b
   end_one (Peeled p) (Peeled q) first second =
       ap Peeled (needed_same m arrivals p q first second)
   end_one (Peeled p) Solved first second = absurd (second.0 p first.within first.holds)
@@ -146,20 +150,24 @@ run_has_result law t word r shape some encoded =
     let kept : List ℕ = kept_by t r in
     let arrivals : List Arrival = arrivals_of t.len word kept in
     let end = some_end t.matrix t.len arrivals word shape some
-    (arrivals_fit t.matrix t.len word kept encoded.codeword) law in (
-      record { kept = length kept; end = end.0 },
+    (arrivals_fit t.matrix t.len word kept encoded.codeword) law in
+    let threshold = some_threshold t.matrix kept t.threshold in (
+      record { kept = length kept; end = end.0; least = threshold.0 },
       record {
         kept = refl;
         ends = subst (λ source. IsEnd t.matrix t.len source arrivals end.0) encoded.source_is end.1;
+        least = threshold.1;
       },
     )
 
-abbrev result_of : ℕ → RunEnd → RunResult
-result_of kept end = record { kept = kept; end = end }
+abbrev result_of : ℕ → RunEnd → RunLeast → RunResult
+result_of kept end least = record { kept = kept; end = end; least = least }
 
-pub run_has_one_result : RunHasOneResult
-run_has_one_result t word r result other first second = ap₂ result_of
-    (first.kept ∙ sym second.kept)
+pub run_has_one_result : ShorterPrefixHasNullWord → LeastPrefixIsOne → RunHasOneResult
+run_has_one_result shorter one t word r result other first second =
+    ap₂ (λ (k : ℕ) (e : RunEnd). result_of k e result.least) (first.kept ∙ sym second.kept)
     (end_one t.matrix t.len (source_of t) (arrivals_of t.len word (kept_by t r)) result.end
     other.end
     first.ends second.ends)
+    ∙ ap (result_of other.kept other.end) (threshold_one t.matrix (kept_by t r) shorter one
+    t.threshold result.least other.least first.least second.least)

@@ -1,8 +1,10 @@
 pub mod Searches
 pub mod NullWords
+pub mod Thresholds
 pub mod Endings
 pub mod Places
 pub mod Drawn
 pub mod Texts
 pub mod Padded
 pub mod Arriving
+pub mod Compared

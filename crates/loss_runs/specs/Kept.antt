@@ -23,6 +23,7 @@ running_of s = record {
     loss = s.loss;
     random = s.random;
     seed = s.seed;
+    threshold = s.threshold;
   };
   word = s.word;
   done = s.done;

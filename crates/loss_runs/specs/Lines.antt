@@ -1,11 +1,13 @@
 -- The lines of a trial.
-use Rattle.std.specs.Prelude.{ℕ, Bool, true, false, List, ◌++◌, length, sum_by, count_by}
+use Rattle.std.specs.Prelude.{ℕ, Bool, true, false, List, [], ◌++◌, length, sum_by, count_by}
 use Rattle.std.specs.Prelude.{codes, decimal}
 use Rattle.std.specs.List.{enumerate_from, flat_map}
 use Rattle.sparse_rows.specs.Matrix.{Matrix}
 use Rattle.loss_runs.specs.Trials.{Trial}
 use Rattle.loss_runs.specs.declared.result.RunEnd.{RunEnd}
 use Rattle.loss_runs.specs.declared.result.RunEnd.TheVariants.{Peeled, Solved, Undetermined}
+use Rattle.loss_runs.specs.declared.result.RunLeast.{RunLeast}
+use Rattle.loss_runs.specs.declared.result.RunLeast.TheVariants.{Never, Prefix, Unasked}
 use Rattle.loss_runs.specs.declared.result.RunResult.{RunResult}
 
 -- the line of a code: its name, how many source symbols, encoding symbols and entries it has, and
@@ -21,10 +23,16 @@ end_text (Peeled needed) = decimal needed ++ codes " peeled"
 end_text Solved = codes "none solved"
 end_text Undetermined = codes "none undetermined"
 
+-- how many of the kept symbols determine the block, where that is asked for
+abbrev pub least_text : RunLeast → List ℕ
+least_text Unasked = []
+least_text Never = codes " least none"
+least_text (Prefix count) = codes " least " ++ decimal count
+
 -- the line of run r, counted from 1
 abbrev pub run_line : ℕ → RunResult → List ℕ
 run_line r result = codes "run " ++ decimal r ++ codes " kept " ++ decimal result.kept
-    ++ codes " needed " ++ end_text result.end ++ codes "\n"
+    ++ codes " needed " ++ end_text result.end ++ least_text result.least ++ codes "\n"
 
 -- the lines of runs, the first of which has the number 1
 abbrev pub run_lines : List RunResult → List ℕ

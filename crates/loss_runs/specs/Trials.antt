@@ -11,13 +11,15 @@ use Rattle.loss_patterns.specs.declared.kind.LossKind.{LossKind}
 use Rattle.loss_runs.specs.declared.plan.RunPlan.{RunPlan}
 
 -- a code, the length of a symbol, what gets lost of each run, whether each run's sending order is
--- drawn, and the state that the draws begin with
+-- drawn, the state that the draws begin with, and whether each run finds how many of the kept
+-- symbols determine the block
 pub record Trial : Type 0 where
   pub matrix : Matrix
   pub len : ℕ
   pub loss : LossKind
   pub random : Bool
   pub seed : ℕ
+  pub threshold : Bool
 
 -- the trial of a plan with a code
 abbrev pub trial_of : RunPlan → Matrix → Trial
@@ -27,6 +29,7 @@ trial_of p m = record {
   loss = p.loss;
   random = p.random;
   seed = p.seed;
+  threshold = p.threshold;
 }
 
 -- the values of so many draws below 256, from a state on

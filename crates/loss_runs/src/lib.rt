@@ -9,6 +9,7 @@
 
 mod decoding;
 mod laws;
+mod least;
 mod lines;
 mod plan;
 mod result;
@@ -17,8 +18,10 @@ mod sending;
 mod source;
 mod writing;
 
-pub use laws::each_run_has_a_result;
+pub use laws::{
+    each_run_has_a_result, least_is_never_above_needed, threshold_changes_nothing_else,
+};
 pub use plan::RunPlan;
-pub use result::{RunEnd, RunResult, RunsRefusal};
+pub use result::{RunEnd, RunLeast, RunResult, RunsRefusal};
 pub use runs::LossRuns;
 pub use writing::write_runs;

@@ -1,11 +1,11 @@
 // The lines of runs, each put together before it is written.
 ghost use Rattle.std.specs.Prelude.{◌≡◌, ◌+◌, ◌<◌, ℕ, List, [], ◌++◌, ◌∷◌, length, IfOk};
 ghost use Rattle.std.specs.String.{string_bytes};
-ghost use Rattle.loss_runs.specs.Lines.{code_line, run_line, sum_line};
+ghost use Rattle.loss_runs.specs.Lines.{code_line, end_text, least_text, run_line, sum_line};
 ghost use Rattle.loss_runs.specs.Kept.{AreSums};
 ghost use Rattle.loss_runs.specs.declared.result.RunResult.{RunResult};
 
-use crate::{RunEnd, RunResult};
+use crate::{RunEnd, RunLeast, RunResult};
 use sparse_rows::Code;
 use std::alloc::{AllocError, Global};
 
@@ -76,14 +76,32 @@ pub fn run_line(alloc: Global, number: u64, made: RunResult) -> Result<String, A
     ensures { IfOk result (λ line. string_bytes line ≡ run_line number made) }
 {
     let kept = made.kept;
-    match made.end {
-        RunEnd::Peeled(needed) => {
-            format!(in alloc; "run {number} kept {kept} needed {needed} peeled\n")
-        }
-        RunEnd::Solved => format!(in alloc; "run {number} kept {kept} needed none solved\n"),
-        RunEnd::Undetermined => {
-            format!(in alloc; "run {number} kept {kept} needed none undetermined\n")
-        }
+    let end_text = end_text(alloc, made.end)?;
+    let end = end_text.as_str();
+    let least_text = least_text(alloc, made.least)?;
+    let least = least_text.as_str();
+    format!(in alloc; "run {number} kept {kept} needed {end}{least}\n")
+}
+
+// How many arrivals peeling needed, and how the run ended.
+fn end_text(alloc: Global, end: RunEnd) -> Result<String, AllocError>
+    ensures { IfOk result (λ text. string_bytes text ≡ end_text end) }
+{
+    match end {
+        RunEnd::Peeled(needed) => format!(in alloc; "{needed} peeled"),
+        RunEnd::Solved => format!(in alloc; "none solved"),
+        RunEnd::Undetermined => format!(in alloc; "none undetermined"),
+    }
+}
+
+// How many of the kept symbols determine the block, where that is asked for.
+fn least_text(alloc: Global, least: RunLeast) -> Result<String, AllocError>
+    ensures { IfOk result (λ text. string_bytes text ≡ least_text least) }
+{
+    match least {
+        RunLeast::Unasked => Ok(String::new(alloc)),
+        RunLeast::Never => format!(in alloc; " least none"),
+        RunLeast::Prefix(count) => format!(in alloc; " least {count}"),
     }
 }
 

@@ -18,4 +18,6 @@ pub struct RunPlan {
     /// The state that the draws begin with, from 1 to 2,147,483,646. They make the source block,
     /// and then one run after the other.
     pub seed: u32,
+    /// Whether each run finds how many of the kept symbols determine the block.
+    pub threshold: bool,
 }

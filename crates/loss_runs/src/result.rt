@@ -16,6 +16,17 @@ pub enum RunEnd {
     Undetermined,
 }
 
+/// How many of the kept symbols, in the order in which they arrive, determine the block.
+#[derive(Clone, Copy, Debug, PartialEq, Eq)]
+pub enum RunLeast {
+    /// It isn't asked for.
+    Unasked,
+    /// All of them together don't.
+    Never,
+    /// So many, and no fewer.
+    Prefix(u32),
+}
+
 /// What comes of a run.
 #[derive(Clone, Copy, Debug, PartialEq, Eq)]
 pub struct RunResult {
@@ -24,6 +35,8 @@ pub struct RunResult {
     pub kept: u32,
     /// How it ends.
     pub end: RunEnd,
+    /// How many of the kept symbols determine the block.
+    pub least: RunLeast,
 }
 
 /// Why not all lines of the runs were written.

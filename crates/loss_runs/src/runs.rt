@@ -6,6 +6,7 @@ ghost use Rattle.loss_runs.specs.Plans.{IsPlan};
 ghost use Rattle.loss_runs.specs.Ends.{IsRunOf};
 
 use crate::decoding::decode_kept;
+use crate::least::least_kept;
 use crate::sending::{keep_some, sending_order};
 use crate::source::draw_bytes;
 use crate::{RunPlan, RunResult};
@@ -29,6 +30,7 @@ pub struct LossRuns {
     loss: LossKind,
     random: bool,
     seed: u32,
+    threshold: bool,
     done: u32,
 }
 
@@ -65,6 +67,7 @@ impl LossRuns {
             loss: plan.loss,
             random: plan.random,
             seed: plan.seed,
+            threshold: plan.threshold,
             done: 0,
         })
     }
@@ -90,11 +93,13 @@ impl LossRuns {
         let sent = sending_order(alloc, self.code.n(), self.random, &mut generator)?;
         let kept = keep_some(alloc, self.loss, &sent, &mut generator)?;
         let end = decode_kept(alloc, &self.code, &self.word, self.len, &kept)?;
+        let least = least_kept(alloc, &self.code, self.threshold, &kept)?;
         self.generator = generator;
         self.done += 1;
         Ok(RunResult {
             kept: kept.len() as u32,
             end,
+            least,
         })
     }
 }

@@ -8,7 +8,8 @@ use Rattle.tool_base.specs.Table.{block_option, codec_option, draws_option, earl
 use Rattle.tool_base.specs.Table.{format_option, frame_symbol_option, loss_option, max_n_option}
 use Rattle.tool_base.specs.Table.{n1_option, n_option}
 use Rattle.tool_base.specs.Table.{order_option, packets_option, perf_symbol_option, run_seed_option}
-use Rattle.tool_base.specs.Table.{runs_option, seed_option, symbol_option, width_option}
+use Rattle.tool_base.specs.Table.{runs_option, seed_option, symbol_option, threshold_option}
+use Rattle.tool_base.specs.Table.{width_option}
 use Rattle.tool_base.specs.Given.{is_random, is_yes, loss_given, number_given, number_or, shape_of}
 use Rattle.tool_base.specs.Given.{symbols_given}
 use Rattle.tool_base.specs.declared.command.Command.{Command}
@@ -92,6 +93,7 @@ perf_options =
     ∷ order_option
     ∷ takes_number runs_option
     ∷ takes_number run_seed_option
+    ∷ threshold_option
     ∷ []
 
 -- the `perf` that is given; none where the codec excludes an option, or the number of encoding
@@ -102,7 +104,8 @@ perf_of given =
     option_and_then
     (λ shape. option_map
     (λ n. command.Perf shape (number_or perf_symbol_option given) k n (loss_given given)
-    (is_random given) (number_or runs_option given) (number_or run_seed_option given))
+    (is_random given) (number_or runs_option given) (number_or run_seed_option given)
+    (is_yes threshold_option given))
     (symbols_given n_option shape k given)) (shape_of n_option given)
 
 -- the options of `frame` and of `unframe`

@@ -65,7 +65,7 @@ IsInRange (command.Decode draws early packets) = packets ≤ 16777216
 IsInRange (command.Lose kind seed packets) = IsLoseInRange kind seed packets
 IsInRange (command.Show packets) = packets ≤ 16777216
 IsInRange (command.Upgrade packets) = packets ≤ 16777216
-IsInRange (command.Perf shape symbol k n kind random runs run_seed) =
+IsInRange (command.Perf shape symbol k n kind random runs run_seed threshold) =
     IsPerfInRange shape symbol k n kind runs run_seed
 IsInRange (command.Frame symbol) = IsFrameInRange symbol
 IsInRange (command.Unframe symbol) = IsFrameInRange symbol

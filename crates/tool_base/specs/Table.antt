@@ -80,3 +80,7 @@ runs_option = numbers_or (codes "runs") 1 1000 1
 -- the seed of all that `perf` draws
 abbrev pub run_seed_option : NumberOption
 run_seed_option = numbers_or (codes "run-seed") 1 2147483646 1
+
+-- whether each run tells how many of the symbols that arrive determine the block
+abbrev pub threshold_option : CommandOption
+threshold_option = takes (codes "threshold") YesOrNo

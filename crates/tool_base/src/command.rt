@@ -13,7 +13,7 @@ use crate::given::{
 use crate::options::OptionRow;
 use crate::table::{
     BLOCK, CODEC, DRAWS, EARLY, FORMAT, FRAME_SYMBOL, K, LOSS, MAX_N, N, N1, ORDER, PACKETS,
-    PERF_SYMBOL, RUN_SEED, RUNS, SEED, SYMBOL, WIDTH,
+    PERF_SYMBOL, RUN_SEED, RUNS, SEED, SYMBOL, THRESHOLD, WIDTH,
 };
 use clap::ArgMatches;
 use loss_patterns::LossKind;
@@ -97,6 +97,8 @@ pub enum Command {
         runs: u32,
         /// The seed of all draws but the code's, from 1 to 2,147,483,646.
         run_seed: u32,
+        /// Whether each run tells how many of the symbols that arrive determine the block.
+        threshold: bool,
     },
     /// Makes a frame of each datagram of a stream.
     Frame {
@@ -218,7 +220,7 @@ pub fn read_upgrade(given: &ArgMatches) -> Command
 }
 
 // The options of `perf`.
-pub fn perf_options() -> [OptionRow; 12]
+pub fn perf_options() -> [OptionRow; 13]
     ensures { map listed result ≡ perf_options }
 {
     [
@@ -234,6 +236,7 @@ pub fn perf_options() -> [OptionRow; 12]
         ORDER,
         RUNS.row(),
         RUN_SEED.row(),
+        THRESHOLD,
     ]
 }
 
@@ -255,6 +258,7 @@ pub fn read_perf(given: &ArgMatches) -> Option<Command>
         random: is_random(given),
         runs: number_or(given, &RUNS),
         run_seed: number_or(given, &RUN_SEED),
+        threshold: is_yes(given, &THRESHOLD),
     })
 }
 

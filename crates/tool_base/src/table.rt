@@ -165,3 +165,9 @@ pub const RUN_SEED: NumberRow = NumberRow {
     },
     default: 1,
 };
+
+// Whether each run tells how many of the symbols that arrive determine the block.
+pub const THRESHOLD: OptionRow = OptionRow {
+    name: "threshold",
+    values: ValueKind::YesOrNo,
+};

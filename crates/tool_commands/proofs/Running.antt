@@ -71,8 +71,8 @@ module _ (before : Streams) (report : Stream) where
       ended is told
   runs_out watch (Some (command.Show most)) ended is told = pass_out Show most ended is told
   runs_out watch (Some (command.Upgrade most)) ended is told = pass_out Upgrade most ended is told
-  runs_out watch (Some (command.Perf shape symbol k n loss random runs seed)) ended is told =
-      record {
+  runs_out watch (Some (command.Perf shape symbol k n loss random runs seed threshold)) ended is
+      told = record {
         input = refl;
         ends = ends_refused _ _ before.output before.report report ended Memory is tt told;
         quiet = λ done. absurd (cc (is, done));

@@ -6,4 +6,4 @@ use Rattle.tool_commands.specs.declared.options.PerfOptions.{PerfOptions}
 -- the `perf` of these options
 abbrev pub perf_command : PerfOptions → Command
 perf_command o = Perf o.shape o.plan.symbol o.k o.n o.plan.loss o.plan.random o.plan.runs
-    o.plan.seed
+    o.plan.seed o.plan.threshold

@@ -45,12 +45,19 @@ IsCommandRun (Some (command.Show most)) before after watch watch_now ended =
     IsPassRun Show most before after ended
 IsCommandRun (Some (command.Upgrade most)) before after watch watch_now ended =
     IsPassRun Upgrade most before after ended
-IsCommandRun (Some (command.Perf shape symbol k n loss random runs seed)) before after watch
-    watch_now ended = IsPerfRun (record {
+IsCommandRun (Some (command.Perf shape symbol k n loss random runs seed threshold)) before after
+    watch watch_now ended = IsPerfRun (record {
       shape = shape;
       k = k;
       n = n;
-      plan = record { symbol = symbol; loss = loss; random = random; runs = runs; seed = seed };
+      plan = record {
+        symbol = symbol;
+        loss = loss;
+        random = random;
+        runs = runs;
+        seed = seed;
+        threshold = threshold;
+      };
     }) before after ended
 IsCommandRun (Some (command.Frame symbol)) before after watch watch_now ended =
     IsDatagramRun Framing symbol before after ended

@@ -169,6 +169,7 @@ fn run_command<S: Source, K: Sink, R: Sink, W: Watch>(
             random,
             runs,
             run_seed,
+            threshold,
         } => {
             let plan = RunPlan {
                 symbol,
@@ -176,6 +177,7 @@ fn run_command<S: Source, K: Sink, R: Sink, W: Watch>(
                 random,
                 runs,
                 seed: run_seed,
+                threshold,
             };
             let options = PerfOptions { shape, k, n, plan };
             let status = perf(alloc, &options, output, report);

@@ -6,6 +6,7 @@ mod OneFirstNullWord
 mod OneOutcome
 mod OnePerf
 mod HeaderLength
+mod LeastPackets
 mod SentPackets
 mod SentSymbols
 mod ToldBytes

@@ -9,6 +9,7 @@ use Rattle.loss_runs.specs.Laws.{RunHasOneResult}
 use Rattle.loss_runs.specs.Lines.{trial_text}
 use Rattle.loss_runs.specs.Trials.{Trial, source_of, trial_of}
 use Rattle.loss_runs.specs.declared.result.RunEnd.TheVariants.{Solved}
+use Rattle.loss_runs.specs.declared.result.RunLeast.TheVariants.{Unasked}
 use Rattle.loss_runs.specs.declared.result.RunResult.{RunResult}
 use Rattle.tool_base.specs.Options.{codec_word}
 use Rattle.tool_commands.specs.PerfRun.{Tried, tried_text}
@@ -16,7 +17,7 @@ use Rattle.tool_commands.specs.declared.options.PerfOptions.{PerfOptions}
 
 -- a result, whichever
 abbrev no_result : RunResult
-no_result = record { kept = 0; end = Solved }
+no_result = record { kept = 0; end = Solved; least = Unasked }
 
 -- the same number of runs of one trial comes out in one way
 runs_one : RunHasOneResult → (t : Trial) (results others : List RunResult) → HasShape t.matrix

@@ -4,7 +4,9 @@ ghost use Rattle.tool_laws.specs.FrameLaws.{UnframeUndoesFrame};
 ghost use Rattle.tool_laws.specs.Laws.{DecodingIsOne, EncodingIsOne, PacketFileHasNoFault};
 ghost use Rattle.tool_laws.specs.Laws.{PacketFileIsOne};
 ghost use Rattle.tool_laws.specs.LossLaws.{LossLeavesPacketFile, LostIsNeverDecodedWrong};
-ghost use Rattle.tool_laws.specs.PerfLaws.{CodeIsTried, PerfIsOne};
+ghost use Rattle.tool_laws.specs.PerfLaws.{CodeIsTried, LeastIsNeverAboveNeeded};
+ghost use Rattle.tool_laws.specs.PerfLaws.{LeastIsNoneWhereUndetermined, PerfIsOne};
+ghost use Rattle.tool_laws.specs.PerfLaws.{ThresholdChangesNoOtherColumn};
 ghost use Rattle.tool_laws.specs.RoundTrip.{ChosenDecodeRight, ChosenDecodeWithoutNullWords};
 ghost use Rattle.tool_laws.specs.RoundTrip.{DecodeUndoesEncode, GivenBackByAll};
 ghost use Rattle.tool_laws.specs.RoundTrip.{GivenBackWithoutNullWords, NeverDecodedWrong};
@@ -14,7 +16,9 @@ ghost use Rattle.tool_laws.specs.RunLaws.{PacketFileIsDecoded, PacketFileIsPasse
 ghost use Rattle.tool_laws.specs.UpgradeLaws.{UpgradeDecodesAlike, UpgradeWritesPacketFile};
 
 use datagram_pass::datagrams_are_passed;
-use loss_runs::each_run_has_a_result;
+use loss_runs::{
+    each_run_has_a_result, least_is_never_above_needed, threshold_changes_nothing_else,
+};
 use null_witness::{null_words_follow_the_closure, null_words_show_what_is_open};
 use packet_file::{files_have_one_fault, headers_and_packets_have_one_spelling};
 use peeling::closure_is_least;
@@ -176,6 +180,22 @@ pub fn one_text_for_each_perf()
     ensures { PerfIsOne }
 {
     each_run_has_a_result();
+}
+
+/// The least number of packets that a run of a `perf` tells is never above the number that peeling
+/// needed, and is none exactly where the run is undetermined.
+pub fn least_of_a_run_is_never_above_needed()
+    ensures within { LeastIsNeverAboveNeeded }
+    ensures none { LeastIsNoneWhereUndetermined }
+{
+    least_is_never_above_needed();
+}
+
+/// Whether a `perf` tells the least number of packets changes no other column of its runs' lines.
+pub fn threshold_changes_no_other_column()
+    ensures { ThresholdChangesNoOtherColumn }
+{
+    threshold_changes_nothing_else();
 }
 
 /// A `perf` whose block is within the limit, and whose matrix takes no more draws than it may,

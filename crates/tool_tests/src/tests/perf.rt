@@ -24,6 +24,7 @@ fn check_runs(
     alloc: Global,
     order: &str,
     loss: &str,
+    threshold: &str,
     lines: &str,
 ) -> Result<(), Fail> {
     let words = [
@@ -35,6 +36,8 @@ fn check_runs(
         order,
         "--loss",
         loss,
+        "--threshold",
+        threshold,
     ];
     let left = run_unread(alloc, &words)?;
     let wanted = format!(in alloc; "{CODE_LINE}{lines}")?;
@@ -46,13 +49,30 @@ fn check_runs(
 fn runs_peel_or_are_solved_or_stay_undetermined(rt: HostRuntime) -> Result<(), Fail> {
     let alloc = rt.alloc();
     let peeled = "run 1 kept 7 needed 3 peeled\nruns 1 peeled 1 solved 0 undetermined 0\n";
-    check_runs(&rt, alloc, "sent", "none", peeled)?;
+    check_runs(&rt, alloc, "sent", "none", "no", peeled)?;
     let solved = "run 1 kept 4 needed none solved\nruns 1 peeled 0 solved 1 undetermined 0\n";
-    check_runs(&rt, alloc, "sent", "first:3", solved)?;
+    check_runs(&rt, alloc, "sent", "first:3", "no", solved)?;
     let open = "run 1 kept 1 needed none undetermined\nruns 1 peeled 0 solved 0 undetermined 1\n";
-    check_runs(&rt, alloc, "sent", "first:6", open)?;
+    check_runs(&rt, alloc, "sent", "first:6", "no", open)?;
     let shuffled = "run 1 kept 7 needed 4 peeled\nruns 1 peeled 1 solved 0 undetermined 0\n";
-    check_runs(&rt, alloc, "random", "none", shuffled)?;
+    check_runs(&rt, alloc, "random", "none", "no", shuffled)?;
+    Ok(())
+}
+
+#[test]
+fn runs_tell_the_least_number_that_determines(rt: HostRuntime) -> Result<(), Fail> {
+    let alloc = rt.alloc();
+    let peeled = "run 1 kept 7 needed 3 peeled least 3\nruns 1 peeled 1 solved 0 undetermined 0\n";
+    check_runs(&rt, alloc, "sent", "none", "yes", peeled)?;
+    let solved = "run 1 kept 4 needed none solved least 3\n\
+        runs 1 peeled 0 solved 1 undetermined 0\n";
+    check_runs(&rt, alloc, "sent", "first:3", "yes", solved)?;
+    let open = "run 1 kept 1 needed none undetermined least none\n\
+        runs 1 peeled 0 solved 0 undetermined 1\n";
+    check_runs(&rt, alloc, "sent", "first:6", "yes", open)?;
+    let shuffled =
+        "run 1 kept 7 needed 4 peeled least 4\nruns 1 peeled 1 solved 0 undetermined 0\n";
+    check_runs(&rt, alloc, "random", "none", "yes", shuffled)?;
     Ok(())
 }
 

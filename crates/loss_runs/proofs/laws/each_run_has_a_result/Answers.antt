@@ -5,4 +5,6 @@ pub returns-clause-some : goal.returns-clause-some
 returns-clause-some c = run_has_result c.null_words_show_what_is_open.ensures
 
 pub returns-clause-one : goal.returns-clause-one
-returns-clause-one c = run_has_one_result
+returns-clause-one c =
+    run_has_one_result c.shorter_prefixes_have_more_null_words.ensures.shorter
+    c.shorter_prefixes_have_more_null_words.ensures.one

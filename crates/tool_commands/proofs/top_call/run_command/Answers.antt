@@ -48,7 +48,8 @@ returns-in-Upgrade-clause-runs g c =
 pub returns-in-Perf-clause-runs : goal.returns-in-Perf-clause-runs
 returns-in-Perf-clause-runs g c =
     let p = c.in-Perf in
-    let asked = command.Perf p.shape p.symbol p.k p.n p.loss p.random p.runs p.run_seed in
+    let asked = command.Perf p.shape p.symbol p.k p.n p.loss p.random p.runs p.run_seed
+    p.threshold in
     let is : Some c.args.command ≡ Some asked = search rules in
     let run = c.perf-status.ensures in
     runs_asked _ _ _ _ _ (Some c.args.command) (Some asked) is

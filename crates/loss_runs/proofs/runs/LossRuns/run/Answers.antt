@@ -1,5 +1,5 @@
 use Rattle.std.proofs.Common.{◌≡◌, ℕ, List, ap, ◌∙◌, subst, length}
-use Rattle.loss_runs.specs.Ends.{IsEnd, IsRunOf}
+use Rattle.loss_runs.specs.Ends.{IsEnd, IsRunOf, IsThreshold}
 use Rattle.loss_runs.specs.Kept.{running_of}
 use Rattle.loss_runs.specs.Running.{Running}
 use Rattle.loss_runs.specs.Trials.{arrivals_of, kept_by, source_of}
@@ -38,8 +38,12 @@ returns-clause-result c =
     (subst (λ (s : List (List ℕ)). IsEnd t.matrix t.len s
     (arrivals_of t.len r.word c.deref-2.result.now) c.in_ok-end.end)
     c.self.invariant.encoded.source_is c.in_ok-end.ensures) in
+    let least = subst (λ (l : List ℕ). IsThreshold t.matrix t.threshold l c.in_ok-least.least)
+    (c.deref-3.ensures.value ∙ kept_is) c.in_ok-least.ensures in
     subst (λ (u : Running). IsRunOf u.trial u.word u.done
-    (record { kept = c.len.result; end = c.in_ok-end.end })) c.self.view_is (record {
+    (record { kept = c.len.result; end = c.in_ok-end.end; least = c.in_ok-least.least }))
+    c.self.view_is (record {
       kept = c.len.ensures ∙ c.in_ok-kept.kept.ok.0 ∙ ap length kept_is;
       ends = ends;
+      least = least;
     })
