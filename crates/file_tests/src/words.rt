@@ -186,7 +186,12 @@ fn a_grid_has_the_size_of_its_width_and_block(rt: HostRuntime) -> Result<(), Fai
         &[
             &["encode", "--codec=2d", "--block=65536"],
             // A grid of 65,536 symbols, which has no room for a corner.
-            &["encode", "--codec=2d-corner", "--width=254", "--block=65025"],
+            &[
+                "encode",
+                "--codec=2d-corner",
+                "--width=254",
+                "--block=65025",
+            ],
         ],
     )
 }

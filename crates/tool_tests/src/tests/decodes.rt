@@ -198,7 +198,13 @@ fn a_corner_rebuilds_what_its_grid_leaves_open(rt: HostRuntime) -> Result<(), Fa
     let file = with_packets(rt.alloc(), header, &CORNER_PACKETS)?;
     let left = run_over(rt.alloc(), &["decode"], &file)?;
     let peeled = "block 0 peeled\npackets 8\n";
-    check_left(&rt, &left, Status::Done, &[1, 2, 4, 8, 16], peeled.as_bytes());
+    check_left(
+        &rt,
+        &left,
+        Status::Done,
+        &[1, 2, 4, 8, 16],
+        peeled.as_bytes(),
+    );
     check_told(&rt, &left, &CORNER_TOLD);
     // How many packets came before a byte that is none, and how many symbols they made known.
     for (came, known) in [(1, 0), (2, 1), (3, 1), (4, 3), (7, 3)] {

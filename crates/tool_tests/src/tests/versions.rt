@@ -33,8 +33,7 @@ const WHOLE: [u8; 68] = *b"OFPK\x01\xc8\0\0\0\0\0\0\0\x05\0\x02\x01\0\0\x30\0\x0
     \0\0\0\x04\x10\0\0\0\0\x05\x11\x02\0\0\0\x06\x04\x08";
 
 // The same in version 2.
-const MEASURED: [u8; 81] =
-    *b"OFPK\x02\xc8\0\0\0\0\0\0\0\x05\0\x02\x01\0\0\x30\0\x07\0\0\0\x02\
+const MEASURED: [u8; 81] = *b"OFPK\x02\xc8\0\0\0\0\0\0\0\x05\0\x02\x01\0\0\x30\0\x07\0\0\0\x02\
     \0\0\0\0\0\x02\x01\x02\0\0\0\x01\0\x02\x04\x08\0\0\0\x02\0\x01\x10\
     \0\0\0\x03\0\x02\x05\x0a\0\0\0\x04\0\x02\x10\0\0\0\0\x05\0\x02\x11\x02\
     \0\0\0\x06\0\x02\x04\x08";
@@ -43,8 +42,24 @@ const MEASURED: [u8; 81] =
 fn files_of_both_versions_are_encoded(rt: HostRuntime) -> Result<(), Fail> {
     let alloc = rt.alloc();
     let report = "blocks 1\npackets 7\n";
-    check(&rt, alloc, &TWO_BYTES, &OBJECT, Status::Done, &WHOLE, report)?;
-    check(&rt, alloc, &SECOND, &OBJECT, Status::Done, &MEASURED, report)?;
+    check(
+        &rt,
+        alloc,
+        &TWO_BYTES,
+        &OBJECT,
+        Status::Done,
+        &WHOLE,
+        report,
+    )?;
+    check(
+        &rt,
+        alloc,
+        &SECOND,
+        &OBJECT,
+        Status::Done,
+        &MEASURED,
+        report,
+    )?;
     Ok(())
 }
 
@@ -130,7 +145,15 @@ fn padding_that_is_not_zero_is_not_upgraded(rt: HostRuntime) -> Result<(), Fail>
     let header = &WHOLE[..26];
     let packet = [0u8, 0, 0, 2, 16, 1];
     let text = "fault: packet 0 padding\n";
-    check_behind(&rt, alloc, "upgrade", header, &packet, &MEASURED[..26], text)?;
+    check_behind(
+        &rt,
+        alloc,
+        "upgrade",
+        header,
+        &packet,
+        &MEASURED[..26],
+        text,
+    )?;
     let mut file = Vec::from_slice(alloc, header)?;
     file.extend_from_slice(&packet)?;
     let left = run_over(alloc, &["decode"], &file)?;
