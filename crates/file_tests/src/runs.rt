@@ -33,12 +33,7 @@ fn plan(loss: LossKind, random: bool, threshold: bool) -> RunPlan
 }
 
 // The first run of the plan comes out so.
-fn check_run(
-    rt: &impl Abort,
-    alloc: Global,
-    plan: &RunPlan,
-    wanted: RunResult,
-) -> Result<(), Fail>
+fn check_run(rt: &impl Abort, alloc: Global, plan: &RunPlan, wanted: RunResult) -> Result<(), Fail>
     requires { IsPlan plan.now }
 {
     let built = staircase(alloc, 3, 7, 3, 1, 100)?;

@@ -1,6 +1,6 @@
 -- The least number of kept symbols that determine the block, beside how the run ends.
-use Rattle.std.proofs.Common.{◌≡◌, ℕ, ◌≤◌, ◌==◌, ◌||◌, Bool, true, false, List, [], ◌∷◌, length, take}
-use Rattle.std.proofs.Common.{refl, sym, ap, ◌∙◌, subst, arith, true≢false}
+use Rattle.std.proofs.Common.{◌≡◌, ℕ, ◌≤◌, ◌==◌, ◌||◌, Bool, true, false, List, [], ◌∷◌, length}
+use Rattle.std.proofs.Common.{take, refl, sym, ap, ◌∙◌, subst, arith, true≢false}
 use Rattle.std.proofs.lemmas.List.{take-map}
 use Rattle.sparse_rows.specs.Matrix.{HasShape, Matrix, is_in}
 use Rattle.sparse_rows.specs.Codeword.{Arrival, IsCodeword, positions, symbol_at}
@@ -136,7 +136,8 @@ module _ (fewer : NullWordOfSubset) (same : ClosureHasSameNullWords) (source : N
             encoded.codeword result.least least
             (undetermined_has fewer m t.len word same source shorter shape kept law some
             encoded.codeword
-            (subst (IsEnd m t.len (take m.k word) (arrivals_of t.len word kept)) undetermined ends)),
+            (subst (IsEnd m t.len (take m.k word) (arrivals_of t.len word kept)) undetermined
+            ends)),
       )
 
 pub other_columns_stay : OtherColumnsStay
