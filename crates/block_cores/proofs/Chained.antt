@@ -1,7 +1,8 @@
 -- The decoders of a file's blocks, once packets were taken in one after the other.
 use Rattle.std.proofs.Common.{All, List, None, [], suc, append-nil, append_assoc, arith, drop}
 use Rattle.std.proofs.Common.{length, length-drop, subst, sym, take, ℕ, ◌+◌, ◌++◌, ◌-◌, ◌∷◌}
-use Rattle.std.proofs.lemmas.List.{take_all}
+use Rattle.std.proofs.Common.{ap, get_or, slice_set, subst₂, ◌<◌, ◌≡◌, ◌∙◌}
+use Rattle.std.proofs.lemmas.List.{get_or_default, take_all}
 use Rattle.fec_session.specs.Session.{ReceivesAt}
 use Rattle.oti_fields.specs.declared.identifier.PacketId.{PacketId}
 use Rattle.packet_file.specs.Header.{HeaderFields}
@@ -9,6 +10,7 @@ use Rattle.packet_file.specs.Packets.{IsPacketOf, Packet}
 use Rattle.packet_intake.specs.Intake.{Each, Wanting}
 use Rattle.packet_intake.specs.Pieces.{IsPacketBytes}
 use Rattle.peeling.specs.Decoder.{Decoder}
+use Rattle.peeling.specs.Stands.{Receives}
 use Rattle.sparse_rows.specs.Matrix.{Matrix}
 use Rattle.object_file.specs.Receiving.{AreCores, TakesPacket}
 use Rattle.object_file.proofs.Cores.{cores_more}
@@ -38,12 +40,25 @@ all_taken h code before (p ∷ packets) first old new cores each (mid, (free, re
     (one_taken h old mid p (each 0 p (omega arith)) received))
     (λ i d lt. each (suc i) d (omega (arith, lt))) rest)
 
--- the bytes behind the identifier are the symbol that the decoder of its block received
-pub symbol_received : (old new : List Decoder) (id : PacketId) (bytes : List ℕ)
-    → ReceivesAt old new id.sbn id.esi (take (length bytes - 4) (drop 4 bytes))
-    → ReceivesAt old new id.sbn id.esi (drop 4 bytes)
-symbol_received old new id bytes received = subst (ReceivesAt old new id.sbn id.esi)
-    (take_all (length bytes - 4) (drop 4 bytes) (omega (arith, length-drop 4 bytes))) received
+-- the decoder of the packet's block received its symbol, which is behind the identifier
+pub symbol_received : (old items : List Decoder) (id : PacketId) (bytes : List ℕ)
+    (core new : Decoder) → items ≡ old
+    → (h : HeaderFields) × AreBlocks h old × IsPacketBytes h id bytes
+    → core ≡ get_or items id.sbn core
+    → Receives core new id.esi (take (length bytes - 4) (drop 4 bytes))
+    → ReceivesAt old (slice_set items id.sbn new) id.sbn id.esi (drop 4 bytes)
+symbol_received old items id bytes core new same (h, (code, packets, cores), is) at received =
+    record {
+      now = new;
+      received = λ d.
+          let inside : id.sbn < length old = omega (arith, is.packet.id.block, cores.counted) in
+          let here : core ≡ get_or old id.sbn d = at
+          ∙ ap (λ (l : List Decoder). get_or l id.sbn core) same
+          ∙ get_or_default old id.sbn core d inside in
+          subst₂ (λ (x : Decoder) (symbol : List ℕ). Receives x new id.esi symbol) here
+          (take_all (length bytes - 4) (drop 4 bytes) (omega (arith, length-drop 4 bytes))) received;
+      set = ap (λ (l : List Decoder). slice_set l id.sbn new) same;
+    }
 
 -- there is a place for each packet of the file still
 pub fits_more : (old new : List Decoder) (id : PacketId) (bytes : List ℕ)

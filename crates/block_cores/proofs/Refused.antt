@@ -1,15 +1,14 @@
 -- Why a file isn't taken to its end.
-use Rattle.std.proofs.Common.{List, Option, inl, inr, ℕ, ◌≤◌, [], ◌≢◌, ◌⊎◌}
+use Rattle.std.proofs.Common.{List, Option, inl, inr, ℕ, ◌≤◌, []}
 use Rattle.std.specs.Io.KnownBytes.{Consumes}
 use Rattle.fec_base.specs.Outside.{Stream}
 use Rattle.packet_file.specs.Header.{HeaderFields, IsHeader, header_bytes}
-use Rattle.packet_file.specs.OneReading.{Reads, ReadsFile, Stop, stop_by}
+use Rattle.packet_file.specs.OneReading.{Reads, Stop, stop_by}
 use Rattle.packet_file.specs.Packets.{Packet}
 use Rattle.packet_file.specs.Taking.{TakesAtMost}
 use Rattle.packet_file.specs.declared.fault.FileFault.{FileFault}
 use Rattle.packet_file.proofs.Readings.{reads_behind}
 use Rattle.packet_intake.specs.Intake.{RefusesPackets}
-use Rattle.packet_intake.specs.declared.refusal.IntakeRefusal.{IntakeRefusal}
 use Rattle.packet_intake.specs.declared.refusal.IntakeRefusal.TheVariants as intake
 use Rattle.sparse_rows.specs.Matrix.{Matrix}
 use Rattle.object_file.specs.Receiving.{RefusesOpening}

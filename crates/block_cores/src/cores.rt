@@ -1,7 +1,7 @@
 // The decoders of a file's blocks.
-ghost use Rattle.std.specs.Prelude.{◌≡◌, ◌<◌, ◌≤◌, IfOk, length, slice_index_or};
+ghost use Rattle.std.specs.Prelude.{◌≡◌, ◌<◌, ◌≤◌, IfOk, length};
 ghost use Rattle.fec_session.specs.Session.{AreNew, ReceivesAt};
-ghost use Rattle.peeling.specs.Decoder.{Decoder};
+ghost use Rattle.peeling.specs.Stands.{Receives};
 ghost use Rattle.block_cores.specs.Cores.{AreBlocks};
 
 use fec_base::{NoMemory, Steps, Tally};
@@ -70,17 +70,20 @@ impl PacketTaker for BlockCores {
     }
 
     fn take(&mut self, _index: u64, id: PacketId, bytes: &[u8]) -> Result<(), TakerFailed> {
-        take_in(&mut self.cores, id.sbn, id.esi, &bytes[IDENTIFIER_LEN..]);
+        arrive(
+            &mut self.cores[id.sbn as usize],
+            id.esi,
+            &bytes[IDENTIFIER_LEN..],
+        );
         Ok(())
     }
 }
 
-// Takes an encoding symbol into the decoder of its block. The other blocks stay.
-fn take_in(cores: &mut [Core], sbn: u32, e: u32, bytes: &[u8])
-    requires block { sbn < length cores.old }
-    requires position { (d : Decoder) → e < (slice_index_or cores.old sbn d).matrix.n }
-    requires length { (d : Decoder) → length bytes.now ≡ (slice_index_or cores.old sbn d).len }
-    ensures { ReceivesAt cores.old cores.new sbn e bytes.now }
+// Takes in an encoding symbol of the decoder's block.
+fn arrive(core: &mut Core, e: u32, bytes: &[u8])
+    requires position { e < core.old.matrix.n }
+    requires length { length bytes.now ≡ core.old.len }
+    ensures { Receives core.old core.new e bytes.now }
 {
-    cores[sbn as usize].arrive(e, bytes, &mut Steps::<Tally>::start());
+    core.arrive(e, bytes, &mut Steps::<Tally>::start());
 }

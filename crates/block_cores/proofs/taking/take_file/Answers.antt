@@ -8,7 +8,7 @@ use Rattle.peeling.specs.Decoder.{Decoder}
 use Rattle.object_file.specs.Receiving.{matrix_at}
 use Rattle.object_file.proofs.Cores.{new_codes, new_cores}
 use Rattle.block_cores.proofs.Chained.{all_taken, takes}
-use Rattle.block_cores.proofs.Refused.{file_read, packets_refused, opening_refused}
+use Rattle.block_cores.proofs.Refused.{file_read, packets_refused}
 use Rattle.block_cores.proofs.taking.take_file.Goals as goal
 
 pub take_packets-requires-clause-fits : goal.take_packets-requires-clause-fits
