@@ -1,1 +1,4 @@
 pub mod DatagramRun
+pub mod Salvaged
+pub mod SalvageRun
+pub mod Surveyed
