@@ -1,1 +1,3 @@
 pub mod DatagramRuns
+mod Surveys
+mod Words
