@@ -1,3 +1,5 @@
 pub mod DatagramRuns
+mod FileSaved
+mod Statuses
 mod Surveys
 mod Words

@@ -1,14 +1,12 @@
-use Rattle.std.proofs.Common.{◌≡◌, ◌<◌, ◌++◌, List, [], ℕ, length, get_or, take, subst, sym, ap}
+use Rattle.std.proofs.Common.{◌≡◌, ◌<◌, ◌++◌, List, ℕ, length, get_or, take, subst, sym}
 use Rattle.std.proofs.Common.{◌∙◌, append_assoc, arith, rules}
 use Rattle.std.specs.List.{flat_map}
-use Rattle.std.proofs.lemmas.List.{take_all}
-use Rattle.std.proofs.KnownBytes.{Appends-nil}
 use Rattle.fec_base.specs.Bytes.{AppendsFront}
 use Rattle.fec_base.proofs.Cuts.{cut_longer, on_err}
 use Rattle.object_file.specs.Staged.{PassesOn}
 use Rattle.tool_reach.specs.Salvaged.{salvaged_bytes, salvaged_object}
 use Rattle.tool_base.proofs.Blocks.{blocks_more, blocks_left, blocks_front}
-use Rattle.object_file.proofs.Passing.{passes_after, passes_none, cut_after}
+use Rattle.object_file.proofs.Passing.{passes_after, cut_after}
 use Rattle.tool_reach.proofs.saved_object.put_object.Goals as goal
 
 pub loop-block-preserved : goal.loop-block-preserved

@@ -1,6 +1,6 @@
 use Rattle.std.proofs.Common.{◌≡◌, ◌<◌, ◌+◌, ◌++◌, List, ℕ, length, get_or, take, drop, subst, sym, arith}
-use Rattle.std.proofs.Common.{ap, ◌∙◌}
-use Rattle.std.specs.List.{flat_map, range_with_len}
+use Rattle.std.proofs.Common.{◌∙◌}
+use Rattle.std.specs.List.{flat_map}
 use Rattle.std.proofs.lemmas.List.{take_all}
 use Rattle.std.proofs.lemmas.List.FromFn.{get_or-range_with_len, length-range_with_len}
 use Rattle.std.specs.Io.KnownBytes.{Appends}
@@ -8,7 +8,7 @@ use Rattle.std.proofs.KnownBytes.{Appends-trans}
 use Rattle.fec_base.specs.Bytes.{AppendsFront}
 use Rattle.fec_base.proofs.Cuts.{cut_behind, cut_longer, on_err}
 use Rattle.tool_base.proofs.Blocks.{all_blocks, one_more}
-use Rattle.tool_reach.specs.Salvaged.{count_of, open_line, open_lines, sources_of}
+use Rattle.tool_reach.specs.Salvaged.{count_of, open_line, sources_of}
 use Rattle.tool_reach.proofs.saved_report.put_open_lines.Goals as goal
 
 pub loop-e-preserved : goal.loop-e-preserved

@@ -1,4 +1,4 @@
-use Rattle.std.proofs.Common.{arith, get_or, subst, ◌≡◌}
+use Rattle.std.proofs.Common.{arith, subst}
 use Rattle.std.specs.Io.KnownBytes.{Appends}
 use Rattle.fec_base.specs.Bytes.{AppendsFront}
 use Rattle.fec_base.proofs.Cuts.{on_err}
