@@ -17,6 +17,7 @@ mod frames;
 mod passes;
 mod perf;
 mod refused;
+mod salvaged;
 mod sweeps;
 
 const THREE_OF_SEVEN: [&str; 4] = ["encode", "--symbol=1", "--block=3", "--max-n=7"];
