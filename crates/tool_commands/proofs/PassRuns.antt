@@ -4,7 +4,6 @@ use Rattle.std.specs.Io.KnownBytes.{Appends}
 use Rattle.fec_base.specs.Bytes.{AppendsFront}
 use Rattle.fec_base.specs.Causes.{HasCause}
 use Rattle.packet_file.specs.declared.fault.FileFault.{FileFault}
-use Rattle.packet_pass.specs.Pass.{PassEnds, PassesWhole}
 use Rattle.packet_pass.specs.Written.{WritesEarly, WritesWhole}
 use Rattle.packet_pass.specs.declared.kind.Pass.{Pass}
 use Rattle.packet_pass.specs.declared.kind.Passed.{Passed}
