@@ -87,6 +87,7 @@ module _ (draws : Option ℕ) (most : ℕ) (input input_now : Stream) (taken : T
       taken = is.file;
       counted = are.counted ∙ is.cores.counted;
       surveyed = surveyed;
+      sized = λ b lt. is.cores.sources b (within b lt);
       held = held;
       object_is = refl;
       report_is = ap (salvage_report surveys) is.counted;

@@ -1,4 +1,5 @@
 pub mod DatagramRuns
+mod Certain
 mod FileSaved
 mod Statuses
 mod Surveys

@@ -2,3 +2,4 @@ pub mod DatagramRun
 pub mod Salvaged
 pub mod SalvageRun
 pub mod Surveyed
+pub mod Laws

@@ -28,6 +28,7 @@ pub record Salvages (draws : Option ℕ) (most : ℕ) (input input_now : Stream)
   pub counted : length surveys ≡ length (source_counts header)
   pub surveyed : (b : ℕ) (s : Survey) → b < length surveys
       → IsSurvey (code b) header.oti.symbol (arrivals_of b packets) (slice_index_or surveys b s)
+  pub sized : (b : ℕ) → b < length surveys → (code b).k ≡ count_at header b
   pub held : (b : ℕ) (s : Survey) → b < length surveys
       → Holds (count_at header b) header.oti.symbol (slice_index_or surveys b s)
   -- and so are the object and the report

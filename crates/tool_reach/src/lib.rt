@@ -8,6 +8,7 @@
 
 mod datagram_run;
 mod framing;
+mod laws;
 mod salvaging;
 mod saved_object;
 mod saved_report;
@@ -15,5 +16,6 @@ mod surveying;
 mod unframing;
 
 pub use framing::frame;
+pub use laws::what_is_salvaged_is_certain;
 pub use salvaging::salvage;
 pub use unframing::unframe;
