@@ -23,8 +23,8 @@ pub struct TakenFile {
 }
 
 /// Takes the packets of the file that the input is, at most `most`, to its end. One packet is in
-/// memory at a time, beside the decoders. Where the input is no such file nothing is read behind the
-/// header or the packet that shows it.
+/// memory at a time, beside the decoders. Where the input is no such file nothing is read behind
+/// the header or the packet that shows it.
 pub fn take_file<S: Source>(
     alloc: Global,
     draws: Option<u32>,

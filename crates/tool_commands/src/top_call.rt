@@ -32,14 +32,14 @@ pub struct Ended<W = Box<dyn Watch>> {
 /// the packets of the input determine, the packet file without the packets that are lost, or its
 /// lines, or the lines of the runs of a decoder, or the frames of a stream of datagrams, or the
 /// stream of frames; and the report is its counts. At `Undetermined` a `salvage` has written the
-/// object, with zero bytes in place of what the packets leave open. At `WriteFault` the output has a
-/// front of what it was to have, or the whole of it where the report alone failed. An `encode` or a
+/// object, with zero bytes in place of what the packets leave open. At `WriteFault` the output has
+/// a front of what it was to have, or the whole of it where the report alone failed. An `encode` or a
 /// `perf` that ends for want of memory may have written a part of its output, from its front on. A
 /// `lose` or a `show` whose input fails or is no packet file has written the text of the packets
 /// before, and a `frame` or an `unframe` whose input fails or has a fault what goes for the
 /// datagrams before. At every other status nothing was written to the output. A `decode` tells the
-/// watch, after each packet and before a further byte is read, of each symbol that this packet makes
-/// known.
+/// watch, after each packet and before a further byte is read, of each symbol that this packet
+/// makes known.
 pub fn run<S: Source, K: Sink, R: Sink>(
     alloc: Global,
     words: &Words,

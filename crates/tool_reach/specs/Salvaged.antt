@@ -1,5 +1,5 @@
--- What is salvaged of a file's blocks: the object, with what the packets determine of it, the report
--- and the status.
+-- What is salvaged of a file's blocks: the object, with what the packets determine of it, the
+-- report and the status.
 use Rattle.std.specs.Fmt.{decimal}
 use Rattle.std.specs.List.{enumerate_from, flat_map, list_any, range_with_len}
 use Rattle.std.specs.Prelude.{Bool, List, [], codes, count_by, false, if◌then◌else◌, length, not}
