@@ -19,5 +19,5 @@ pub use file_codes::{block_codes, build_codes, find_code};
 pub use making::{Made, STAGING_LEN, make_file};
 pub use object::read_object;
 pub use options::EncodeOptions;
-pub use reception::{Received, receive};
+pub use reception::{Opened, Received, open, receive};
 pub use write::{WriteRefusal, write_file};

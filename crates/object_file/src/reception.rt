@@ -29,12 +29,14 @@ pub struct Received<W = Box<dyn Watch>> {
     pub packets: u64,
 }
 
-// A packet file whose header was read: the codes of its blocks, and room for a packet.
+/// A packet file whose header was read.
 #[derive(Drop)]
-struct Opened {
-    header: Header,
-    codes: Vec<Code>,
-    piece: Vec<u8>,
+pub struct Opened {
+    pub header: Header,
+    /// The codes of its blocks, in order.
+    pub codes: Vec<Code>,
+    /// Room for a packet.
+    pub piece: Vec<u8>,
 }
 
 // A receiver that takes in the packets of a file: with `early` it wants no more once all source is
@@ -102,8 +104,9 @@ fn cause_of(refusal: IntakeRefusal) -> Refusal
     }
 }
 
-// Reads the header, and makes the codes of its blocks and room for a packet.
-fn open<S: Source>(alloc: Global, draws: Option<u32>, input: &mut S) -> Result<Opened, Refusal>
+/// Opens the packet file that the input is: reads its header, and makes the codes of its blocks and
+/// room for a packet. Nothing is read behind the header.
+pub fn open<S: Source>(alloc: Global, draws: Option<u32>, input: &mut S) -> Result<Opened, Refusal>
     ensures header { IfOk result (λ opened. IsHeader opened.header) }
     ensures bytes { IfOk result
         (λ opened. Consumes (S.left input.old) (S.left input.new) (header_bytes opened.header)) }

@@ -53,4 +53,4 @@ pub record IsReadOff (d : Decoder) (r : ReducedForm) (saved : Saved) : Type 0 wh
 abbrev pub ReadOffIsSaved : Type 0
 ReadOffIsSaved = (d : Decoder) (arrivals : List Arrival) (r : ReducedForm) (saved : Saved)
     → IsDecoder d → StandsFor d arrivals → d.clashed ≡ false → IsReducedForm (residue d) r
-    → IsReadOff d r saved → IsSurvey d arrivals (answer.Sources saved)
+    → IsReadOff d r saved → IsSurvey d.matrix d.len arrivals (answer.Sources saved)

@@ -28,6 +28,7 @@ pub(crate) fn read_off(
     requires few { length columns.now ≤ 65536 }
     requires rising { IsStrictlyIncreasing columns.now }
     requires form { IsReducedForm (residue core.now) reduced.now }
+    requires source { core.now.matrix.k ≤ 65536 }
     ensures { IfOk result (IsReadOff core.now reduced.now) }
 {
     let pieces = pieces(alloc, core, columns, reduced)?;

@@ -1,5 +1,5 @@
 // What is saved of a source block.
-ghost use Rattle.std.specs.Prelude.{◌≡◌, ◌≢◌, ◌<◌, [], All, length, MatchOption};
+ghost use Rattle.std.specs.Prelude.{◌≡◌, ◌≢◌, ◌<◌, ◌≤◌, [], All, length, MatchOption};
 ghost use Rattle.partial_block.specs.Saved.{saved_at, through_at};
 ghost use Rattle.partial_block.specs.Pieces.{HasWord, saved_of};
 
@@ -25,23 +25,32 @@ pub(crate) enum Piece {
 
 impl Model for Partial {
     ghost use Rattle.partial_block.specs.Saved.{Saved};
-    ghost use Rattle.std.specs.Prelude.{All};
+    ghost use Rattle.std.specs.Prelude.{◌≤◌, All, length};
     ghost use Rattle.partial_block.specs.Pieces.{HasWord, saved_of};
 
     ghost Value = { Saved };
 
     ghost view = { λ p. saved_of p.pieces.items p.words.items };
 
-    ghost invariant = { λ p. All (HasWord p.words.items) p.pieces.items };
+    ghost invariant = { λ p. All (HasWord p.words.items) p.pieces.items
+        × (length p.pieces.items ≤ 65536) };
 }
 
 impl Partial {
     // These pieces, and the words whose numbers the open ones have.
     pub(crate) fn new(pieces: Vec<Piece>, words: Vec<NullWord>) -> Partial
-        requires { All (HasWord words.items) pieces.items }
+        requires words { All (HasWord words.items) pieces.items }
+        requires few { length pieces.items ≤ 65536 }
         ensures { result ≡ saved_of pieces.items words.items }
     {
         Partial { pieces, words }
+    }
+
+    /// How many source symbols the block has.
+    pub fn count(&self) -> u32
+        ensures { result ≡ length self.now.throughs }
+    {
+        self.pieces.as_slice().len() as u32
     }
 
     /// Source symbol e, counted from 0: the bytes that it has in every codeword that fits the

@@ -16,7 +16,7 @@ use std::alloc::Global;
 /// the null words that are named. `NoMemory` comes only for want of memory.
 pub fn survey(alloc: Global, core: &Core) -> Result<Survey, NoMemory>
     ensures survey { IfOk result (Surveys core.now) }
-    ensures holds { IfOk result (Holds core.now) }
+    ensures holds { IfOk result (Holds core.now.matrix.k core.now.len) }
 {
     // The call of `code` tells what holds of each decoder.
     prove!(core.code().k() <= core.code().n());

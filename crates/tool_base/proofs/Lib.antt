@@ -10,3 +10,6 @@ pub mod HeaderSeeds
 pub mod Readings
 pub mod Ends
 pub mod Endings
+pub mod Enumerated
+pub mod Reports
+pub mod Blocks

@@ -120,6 +120,15 @@ frame_of given = command.Frame (number_or frame_symbol_option given)
 abbrev pub unframe_of : Given → Command
 unframe_of given = command.Unframe (number_or frame_symbol_option given)
 
+-- the options of `salvage`
+abbrev pub salvage_options : List CommandOption
+salvage_options = takes_range draws_option ∷ takes_number packets_option ∷ []
+
+-- the `salvage` that is given
+abbrev pub salvage_of : Given → Command
+salvage_of given =
+    command.Salvage (number_given draws_option given) (number_or packets_option given)
+
 -- the command that its first word names
 abbrev pub command_word_of : Text → Option CommandWord
 command_word_of text =
@@ -131,6 +140,7 @@ command_word_of text =
     else if bytes_eq text (codes "perf") then Some word.Perf
     else if bytes_eq text (codes "frame") then Some word.Frame
     else if bytes_eq text (codes "unframe") then Some word.Unframe
+    else if bytes_eq text (codes "salvage") then Some word.Salvage
     else None
 
 -- the command that the words after its first word ask for
@@ -143,6 +153,7 @@ command_after words word.Upgrade = option_map upgrade_of (options_given upgrade_
 command_after words word.Perf = option_and_then perf_of (options_given perf_options words)
 command_after words word.Frame = option_map frame_of (options_given frame_options words)
 command_after words word.Unframe = option_map unframe_of (options_given frame_options words)
+command_after words word.Salvage = option_map salvage_of (options_given salvage_options words)
 
 -- the command that the words ask for; none where they are usage
 abbrev pub command_of : List Text → Option Command

@@ -8,6 +8,7 @@ pub mod Reading
 pub mod Status
 pub mod ExitCodes
 pub mod BlockCode
+pub mod Lines
 pub mod Refusals
 pub mod RefusalStatuses
 pub mod Outside

@@ -69,3 +69,4 @@ IsInRange (command.Perf shape symbol k n kind random runs run_seed threshold) =
     IsPerfInRange shape symbol k n kind runs run_seed
 IsInRange (command.Frame symbol) = IsFrameInRange symbol
 IsInRange (command.Unframe symbol) = IsFrameInRange symbol
+IsInRange (command.Salvage draws packets) = packets ≤ 16777216

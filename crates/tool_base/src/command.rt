@@ -4,8 +4,9 @@ ghost use Rattle.tool_base.specs.Reading.{given_of, listed};
 ghost use Rattle.tool_base.specs.Commands.{decode_of, decode_options, encode_of};
 ghost use Rattle.tool_base.specs.Ranges.{IsInRange};
 ghost use Rattle.tool_base.specs.Commands.{encode_options, lose_of, lose_options, perf_of};
-ghost use Rattle.tool_base.specs.Commands.{frame_of, frame_options, perf_options, show_of};
-ghost use Rattle.tool_base.specs.Commands.{show_options, unframe_of, upgrade_of, upgrade_options};
+ghost use Rattle.tool_base.specs.Commands.{frame_of, frame_options, perf_options, salvage_of};
+ghost use Rattle.tool_base.specs.Commands.{salvage_options, show_of, show_options, unframe_of};
+ghost use Rattle.tool_base.specs.Commands.{upgrade_of, upgrade_options};
 
 use crate::given::{
     is_random, is_yes, loss_given, number_given, number_or, shape_given, symbols_given,
@@ -109,6 +110,13 @@ pub enum Command {
     Unframe {
         /// The length of a frame in bytes, from 3 to 65,535.
         symbol: u32,
+    },
+    /// Makes of a packet file what its packets determine of the object.
+    Salvage {
+        /// How many draws the code may take, if that is limited.
+        draws: Option<u32>,
+        /// How many packets may be read, at most 16,777,216.
+        packets: u32,
     },
 }
 
@@ -286,5 +294,23 @@ pub fn read_unframe(given: &ArgMatches) -> Command
 {
     Command::Unframe {
         symbol: number_or(given, &FRAME_SYMBOL),
+    }
+}
+
+// The options of `salvage`.
+pub fn salvage_options() -> [OptionRow; 2]
+    ensures { map listed result ≡ salvage_options }
+{
+    [DRAWS.row(), PACKETS.row()]
+}
+
+// The `salvage` that is given.
+pub fn read_salvage(given: &ArgMatches) -> Command
+    ensures value { result ≡ salvage_of (given_of given.now) }
+    ensures in_range { IsInRange result }
+{
+    Command::Salvage {
+        draws: number_given(given, &DRAWS),
+        packets: number_or(given, &PACKETS),
     }
 }

@@ -29,7 +29,7 @@ pub use fault_report::refuse;
 pub use laws::what_is_given_is_read;
 pub use options::codec_word;
 pub use printing::{put_number, put_text};
-pub use report::put_numbered;
+pub use report::{put_numbered, put_positions};
 pub use staircase::{BuildRefusal, Built};
 pub use status::Status;
 pub use words::read_words;

@@ -6,8 +6,8 @@ ghost use Rattle.tool_base.specs.Ranges.{IsInRange};
 use crate::Command;
 use crate::command::{
     decode_options, encode_options, frame_options, lose_options, perf_options, read_decode,
-    read_encode, read_frame, read_lose, read_perf, read_show, read_unframe, read_upgrade,
-    show_options, upgrade_options,
+    read_encode, read_frame, read_lose, read_perf, read_salvage, read_show, read_unframe,
+    read_upgrade, salvage_options, show_options, upgrade_options,
 };
 use crate::options::read_options;
 use fec_base::{NoMemory, Words};
@@ -60,6 +60,7 @@ enum CommandWord {
     Perf,
     Frame,
     Unframe,
+    Salvage,
 }
 
 // The command that the word names.
@@ -89,6 +90,9 @@ fn read_command_word(word: &str) -> Option<CommandWord>
     }
     if word == "unframe" {
         return Some(CommandWord::Unframe);
+    }
+    if word == "salvage" {
+        return Some(CommandWord::Salvage);
     }
     None
 }
@@ -131,6 +135,10 @@ fn read_after(alloc: Global, word: CommandWord, words: &[&str]) -> Result<Option
         },
         CommandWord::Unframe => match read_options(alloc, &frame_options(), words)? {
             Some(given) => Ok(Some(read_unframe(&given))),
+            None => Ok(None),
+        },
+        CommandWord::Salvage => match read_options(alloc, &salvage_options(), words)? {
+            Some(given) => Ok(Some(read_salvage(&given))),
             None => Ok(None),
         },
     }

@@ -1,13 +1,9 @@
-mod Blocks
 mod Delivered
 mod Determining
 mod Encoding
-mod Enumerated
 mod NoObject
-mod Objects
 mod PassRuns
 mod PerfRuns
-mod Reports
 mod Running
 mod Sourced
 mod Verdicts

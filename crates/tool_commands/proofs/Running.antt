@@ -81,3 +81,7 @@ module _ (before : Streams) (report : Stream) where
       told
   runs_out watch (Some (command.Unframe symbol)) ended is told = datagrams_out Unframing symbol
       ended is told
+  runs_out watch (Some (command.Salvage draws most)) ended is told =
+      ends_refusing _ _ _ before.output before.output before.report report ended Memory is []
+      (refl, inl ([], Consumes-nil before.input.bytes, omega arith))
+      (Appends-nil before.output.bytes) told

@@ -3,6 +3,7 @@ use Rattle.std.specs.Fmt.{decimal}
 use Rattle.std.specs.List.{enumerate_from, flat_map, list_any}
 use Rattle.std.specs.Prelude.{Bool, List, [], codes, false, if◌then◌else◌, take, true, ℕ, ◌++◌}
 use Rattle.fec_session.specs.declared.outcome.Outcome.{Outcome}
+use Rattle.tool_base.specs.Lines.{spaced}
 use Rattle.tool_base.specs.declared.status.Status.{Status}
 use Rattle.fec_session.specs.declared.outcome.Outcome.TheVariants as outcome
 use Rattle.tool_base.specs.declared.status.Status.TheVariants as status
@@ -16,10 +17,6 @@ source_bytes (outcome.Undetermined word) = []
 -- the source symbols of all blocks, cut to the object's length
 abbrev pub object_of : List Outcome → ℕ → List ℕ
 object_of outcomes size = take size (flat_map source_bytes outcomes)
-
--- positions, each behind a space
-abbrev pub spaced : List ℕ → List ℕ
-spaced positions = flat_map (λ p. codes " " ++ decimal p) positions
 
 -- what is said of a block
 abbrev pub outcome_words : Outcome → List ℕ

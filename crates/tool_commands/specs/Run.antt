@@ -14,6 +14,7 @@ use Rattle.tool_commands.specs.PassRun.{IsPassRun}
 use Rattle.tool_commands.specs.PerfRun.{IsPerfRun}
 use Rattle.tool_base.specs.Written.{IsTold}
 use Rattle.tool_reach.specs.DatagramRun.{IsDatagramRun}
+use Rattle.tool_reach.specs.SalvageRun.{IsSalvageRun}
 use Rattle.tool_base.specs.declared.command.Command.TheVariants as command
 use Rattle.tool_base.specs.declared.status.Status.TheVariants as status
 
@@ -63,6 +64,8 @@ IsCommandRun (Some (command.Frame symbol)) before after watch watch_now ended =
     IsDatagramRun Framing symbol before after ended
 IsCommandRun (Some (command.Unframe symbol)) before after watch watch_now ended =
     IsDatagramRun Unframing symbol before after ended
+IsCommandRun (Some (command.Salvage draws most)) before after watch watch_now ended =
+    IsSalvageRun draws most before after ended
 
 -- what a run does: what the words ask for
 abbrev pub IsRun : List (List ℕ) → Streams → Streams → Hearing → Hearing → Status → Type 0

@@ -6,11 +6,12 @@ ghost use Rattle.fec_base.specs.Bytes.{AppendsFront};
 ghost use Rattle.fec_base.specs.Causes.{HasCause};
 ghost use Rattle.tool_commands.specs.Outcomes.{block_line, block_lines, decode_report};
 ghost use Rattle.tool_commands.specs.Outcomes.{is_contradicted, is_undetermined, outcome_status};
-ghost use Rattle.tool_commands.specs.Outcomes.{outcome_words, spaced};
+ghost use Rattle.tool_commands.specs.Outcomes.{outcome_words};
+ghost use Rattle.tool_base.specs.Lines.{spaced};
 
 use fec_base::{Sink, Watch, WriteFailed};
 use fec_session::{Finished, Outcome};
-use tool_base::{Status, put_number, put_numbered, put_text};
+use tool_base::{Status, put_number, put_numbered, put_positions, put_text};
 
 /// The status of a run whose blocks came out so: a block that no codeword fits decides, and then
 /// one that is undetermined.
@@ -155,32 +156,5 @@ fn put_word<R: Sink>(report: &mut R, positions: &[u32]) -> Result<(), WriteFaile
     put_text(report, " undetermined")?;
     put_positions(report, positions)?;
     put_text(report, "\n")?;
-    Ok(())
-}
-
-// Puts the positions, each behind a space.
-fn put_positions<R: Sink>(report: &mut R, positions: &[u32]) -> Result<(), WriteFailed>
-    ensures written { OnOk result
-        (Appends (R.held report.old) (R.held report.new) (spaced positions.now)) }
-    ensures cut { OnErr result
-        (AppendsFront (R.held report.old) (R.held report.new) (spaced positions.now)) }
-    ensures cause { HasCause (R.faults report.old) (R.faults report.new) result }
-{
-    for position in positions {
-        put_position(report, *position)?;
-    }
-    Ok(())
-}
-
-// Puts a position behind a space.
-fn put_position<R: Sink>(report: &mut R, position: u32) -> Result<(), WriteFailed>
-    ensures written { OnOk result
-        (Appends (R.held report.old) (R.held report.new) (codes " " ++ decimal position)) }
-    ensures cut { OnErr result
-        (AppendsFront (R.held report.old) (R.held report.new) (codes " " ++ decimal position)) }
-    ensures cause { HasCause (R.faults report.old) (R.faults report.new) result }
-{
-    put_text(report, " ")?;
-    put_number(report, position as u64)?;
     Ok(())
 }

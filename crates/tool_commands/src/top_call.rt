@@ -15,7 +15,7 @@ use object_file::EncodeOptions;
 use packet_pass::Pass;
 use std::alloc::Global;
 use tool_base::{Command, Refusal, Status, read_words, refuse, tell};
-use tool_reach::{frame, unframe};
+use tool_reach::{frame, salvage, unframe};
 
 /// How a run ended, and the watch that was handed in.
 #[derive(Drop)]
@@ -27,18 +27,20 @@ pub struct Ended<W = Box<dyn Watch>> {
 /// Runs a command: the words say which, the input is read, the output and the report are written,
 /// and the watch comes back.
 ///
-/// The commands are `encode`, `decode`, `lose`, `show`, `upgrade`, `perf`, `frame` and `unframe`
-/// (docs/COMMANDS.md). At `Done` the output is the packet file of the whole input, the object that
-/// the packets of the input determine, the packet file without the packets that are lost, or its
-/// lines, or the packet file in version 2, or the lines of the runs of a decoder, or the frames of
-/// a stream of datagrams, or the stream of frames; and the report is its counts. At `WriteFault`
-/// the output has a front of that, or the whole of it where the report alone failed. An `encode` or
-/// a `perf` that ends for want of memory may have written a part of its output, from its front on.
-/// A `lose`, a `show` or an `upgrade` whose input fails or is no packet file, or has a packet that
-/// can't be passed on, has written the text of the packets before, and a `frame` or an `unframe`
-/// whose input fails or has a fault what goes for the datagrams before. At every other status
-/// nothing was written to the output. A `decode` tells the watch, after each packet and
-/// before a further byte is read, of each symbol that this packet makes known.
+/// The commands are `encode`, `decode`, `salvage`, `lose`, `show`, `upgrade`, `perf`, `frame` and
+/// `unframe` (docs/COMMANDS.md). At `Done` the output is the packet file of the whole input, the
+/// object that the packets of the input determine, the packet file without the packets that are
+/// lost, or its lines, or the packet file in version 2, or the lines of the runs of a decoder, or
+/// the frames of a stream of datagrams, or the stream of frames; and the report is its counts. At
+/// `Undetermined` a `salvage` has written the object, with zero bytes in place of what the packets
+/// leave open. At `WriteFault` the output has a front of what it was to have, or the whole of it
+/// where the report alone failed. An `encode` or a `perf` that ends for want of memory may have
+/// written a part of its output, from its front on. A `lose`, a `show` or an `upgrade` whose input
+/// fails or is no packet file, or has a packet that can't be passed on, has written the text of the
+/// packets before, and a `frame` or an `unframe` whose input fails or has a fault what goes for the
+/// datagrams before. At every other status nothing was written to the output. A `decode` tells the
+/// watch, after each packet and before a further byte is read, of each symbol that this packet
+/// makes known.
 pub fn run<S: Source, K: Sink, R: Sink>(
     alloc: Global,
     words: &Words,
@@ -189,6 +191,10 @@ fn run_command<S: Source, K: Sink, R: Sink, W: Watch>(
         }
         Command::Unframe { symbol } => {
             let status = unframe(alloc, symbol, input, output, report);
+            Ended { status, watch }
+        }
+        Command::Salvage { draws, packets } => {
+            let status = salvage(alloc, draws, packets, input, output, report);
             Ended { status, watch }
         }
     }

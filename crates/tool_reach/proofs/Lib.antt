@@ -1,1 +1,6 @@
 pub mod DatagramRuns
+mod Certain
+mod FileSaved
+mod Statuses
+mod Surveys
+mod Words

@@ -1,1 +1,5 @@
 pub mod DatagramRun
+pub mod Salvaged
+pub mod SalvageRun
+pub mod Surveyed
+pub mod Laws

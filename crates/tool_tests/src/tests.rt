@@ -17,6 +17,7 @@ mod frames;
 mod passes;
 mod perf;
 mod refused;
+mod salvaged;
 mod sweeps;
 mod versions;
 

@@ -1,6 +1,7 @@
 // Objects of several source blocks.
 use super::{check, run_over};
 use std::alloc::Global;
+use std::process::Abort;
 use std::test::Fail;
 use tool_base::Status;
 
@@ -51,6 +52,20 @@ fn turned(alloc: Global, file: &[u8], from: usize, to: usize) -> Result<Vec<u8>,
     Ok(mixed)
 }
 
+// Of a file of the object without two source symbols of its second block all else is salvaged.
+fn check_saved(rt: &impl Abort, alloc: Global, object: &[u8], file: &[u8]) -> Result<(), Fail> {
+    let mut saved = Vec::from_slice(alloc, object)?;
+    for (i, byte) in saved.iter_mut().enumerate() {
+        if 400 <= i && i < 600 {
+            *byte = 0;
+        }
+    }
+    let report = "block 0 whole\nblock 1 partial 1 of 3\nsymbol 0 through 0 1\n\
+        symbol 1 through 0 1\nblock 2 whole\npackets 12\n";
+    let partial = Status::Undetermined;
+    check(rt, alloc, &["salvage"], file, partial, &saved, report)
+}
+
 #[test]
 fn one_block_of_three_is_undetermined(rt: HostRuntime) -> Result<(), Fail> {
     let alloc = rt.alloc();
@@ -68,6 +83,7 @@ fn one_block_of_three_is_undetermined(rt: HostRuntime) -> Result<(), Fail> {
         &[],
         open,
     )?;
+    check_saved(&rt, alloc, &object, &file)?;
     let header = turned(alloc, left.output.bytes(), 0, 14)?;
     let open = "block 0 undetermined 0 1\nblock 1 undetermined 0 1\n\
         block 2 undetermined 0 1\npackets 0\n";

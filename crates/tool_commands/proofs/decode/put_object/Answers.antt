@@ -9,7 +9,7 @@ use Rattle.object_file.specs.Staged.{PassesOn}
 use Rattle.object_file.specs.Codes.{count_at}
 use Rattle.object_file.specs.Receiving.{HasSource}
 use Rattle.tool_commands.specs.Outcomes.{object_of, source_bytes}
-use Rattle.tool_commands.proofs.Blocks.{blocks_more, blocks_left, blocks_front}
+use Rattle.tool_base.proofs.Blocks.{blocks_more, blocks_left, blocks_front}
 use Rattle.object_file.proofs.Passing.{passes_after, passes_none, cut_after}
 use Rattle.tool_commands.proofs.decode.put_object.Goals as goal
 

@@ -5,7 +5,7 @@ use Rattle.std.proofs.lemmas.List.{get_or_default, take_all, take_min}
 use Rattle.fec_base.specs.Bytes.{AppendsFront}
 use Rattle.fec_base.proofs.Cuts.{cut_longer, on_err}
 use Rattle.object_file.specs.Staged.{PassesOn}
-use Rattle.tool_commands.proofs.Blocks.{blocks_more, blocks_left, blocks_front}
+use Rattle.tool_base.proofs.Blocks.{blocks_more, blocks_left, blocks_front}
 use Rattle.object_file.proofs.Passing.{passes_after, cut_after}
 use Rattle.tool_commands.proofs.decode.put_symbols.Goals as goal
 

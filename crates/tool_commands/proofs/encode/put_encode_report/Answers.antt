@@ -3,7 +3,7 @@ use Rattle.std.specs.Prelude.{codes}
 use Rattle.fec_base.specs.Bytes.{AppendsFront}
 use Rattle.fec_base.proofs.Cuts.{cut_behind, cut_longer, on_err}
 use Rattle.tool_base.specs.Refusals.{numbered}
-use Rattle.tool_commands.proofs.Reports.{numbered_both}
+use Rattle.tool_base.proofs.Reports.{numbered_both}
 use Rattle.tool_commands.proofs.encode.put_encode_report.Goals as goal
 
 pub returns-in_err-put_numbered-clause-cut : goal.returns-in_err-put_numbered-clause-cut

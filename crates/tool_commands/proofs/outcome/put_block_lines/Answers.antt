@@ -4,7 +4,7 @@ use Rattle.fec_base.specs.Bytes.{AppendsFront}
 use Rattle.fec_session.specs.declared.outcome.Outcome.{Outcome}
 use Rattle.fec_base.proofs.Cuts.{on_err}
 use Rattle.tool_commands.specs.Outcomes.{block_line}
-use Rattle.tool_commands.proofs.Reports.{lines_cut, lines_told}
+use Rattle.tool_base.proofs.Reports.{lines_cut, lines_told}
 use Rattle.tool_commands.proofs.outcome.put_block_lines.Goals as goal
 
 pub returns-in_err-put_block_line-clause-cut : goal.returns-in_err-put_block_line-clause-cut

@@ -4,7 +4,7 @@ use Rattle.fec_base.specs.Bytes.{AppendsFront}
 use Rattle.fec_base.proofs.Cuts.{cut_behind, on_err}
 use Rattle.tool_commands.specs.Outcomes.{block_lines}
 use Rattle.tool_base.specs.Refusals.{numbered}
-use Rattle.tool_commands.proofs.Reports.{numbered_behind}
+use Rattle.tool_base.proofs.Reports.{numbered_behind}
 use Rattle.tool_commands.proofs.outcome.put_decode_report.Goals as goal
 
 pub returns-in_err-put_numbered-clause-cut : goal.returns-in_err-put_numbered-clause-cut

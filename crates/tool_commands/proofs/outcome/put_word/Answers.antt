@@ -1,7 +1,7 @@
 use Rattle.std.proofs.Common.{◌++◌}
 use Rattle.std.specs.Prelude.{codes}
 use Rattle.fec_base.proofs.Cuts.{cut_between, cut_longer, cut_third, on_err}
-use Rattle.tool_commands.specs.Outcomes.{spaced}
+use Rattle.tool_base.specs.Lines.{spaced}
 use Rattle.tool_commands.proofs.outcome.put_word.Goals as goal
 
 pub returns-in_err-put_text-clause-cut : goal.returns-in_err-put_text-clause-cut

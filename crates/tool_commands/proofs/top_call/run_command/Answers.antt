@@ -70,3 +70,10 @@ returns-in-Unframe-clause-runs g c =
     let asked = command.Unframe c.in-Unframe.symbol in
     let is : Some c.args.command ≡ Some asked = search rules in
     runs_asked _ _ _ _ _ (Some c.args.command) (Some asked) is c.unframe-status.ensures
+
+pub returns-in-Salvage-clause-runs : goal.returns-in-Salvage-clause-runs
+returns-in-Salvage-clause-runs g c =
+    let s = c.in-Salvage in
+    let asked = command.Salvage s.draws s.packets in
+    let is : Some c.args.command ≡ Some asked = search rules in
+    runs_asked _ _ _ _ _ (Some c.args.command) (Some asked) is c.salvage-status.ensures

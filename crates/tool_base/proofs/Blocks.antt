@@ -1,10 +1,25 @@
 -- What blocks have, one after the other, and cut to a size.
 use Rattle.std.proofs.Common.{◌≡◌, ℕ, ◌+◌, ◌-◌, ◌<◌, List, [], ◌∷◌, ◌++◌, length, get_or, take}
-use Rattle.std.proofs.Common.{drop, sym, ap, ◌∙◌, arith, append-nil, length-append}
+use Rattle.std.proofs.Common.{drop, sym, ap, ◌∙◌, arith, append-nil, length-append, ⊎_elim, ◌≤◌}
 use Rattle.std.specs.List.{flat_map}
-use Rattle.std.proofs.lemmas.List.{drop_more, take-append-drop, take_more}
+use Rattle.std.proofs.lemmas.List.{drop_more, take-append-drop, take_all, take_more}
 use Rattle.std.proofs.lemmas.List.Concat.{flat_map-append}
-use Rattle.tool_commands.proofs.Objects.{take_split}
+use Rattle.std.proofs.Math.Seq.{take-append-add, take-append-le}
+use Rattle.std.proofs.lemmas.Bool.{cases_lt}
+
+-- a front of two lists is one of the first, and then of the second
+take_split : (size : ℕ) (xs ys : List ℕ) → take size (xs ++ ys) ≡ take size xs
+    ++ take (size - length xs) ys
+take_split size xs ys = ⊎_elim
+    (λ (lt : size < length xs).
+    let none : size - length xs ≡ 0 = omega arith in
+    take-append-le size xs ys (omega arith) ∙ sym (ap (λ (n : ℕ). take size xs ++ take n ys) none
+    ∙ append-nil (take size xs)))
+    (λ (le : length xs ≤ size).
+    let whole : size ≡ length xs + (size - length xs) = omega arith in
+    ap (λ (n : ℕ). take n (xs ++ ys)) whole ∙ take-append-add xs ys (size - length xs)
+    ∙ sym (ap (λ (l : List ℕ). l ++ take (size - length xs) ys) (take_all size xs le)))
+    (cases_lt size (length xs))
 
 module _ {X : Type 0} (f : X → List ℕ) (xs : List X) (i : ℕ) (x : X) (lt : i < length xs)
     (is : x ≡ get_or xs i x) where

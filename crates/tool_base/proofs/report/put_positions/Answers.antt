@@ -6,9 +6,9 @@ use Rattle.std.specs.Io.KnownBytes.{Appends}
 use Rattle.std.proofs.KnownBytes.{Appends-trans}
 use Rattle.fec_base.specs.Bytes.{AppendsFront}
 use Rattle.fec_base.proofs.Cuts.{cut_behind, cut_longer, on_err}
-use Rattle.tool_commands.specs.Outcomes.{spaced}
-use Rattle.tool_commands.proofs.Blocks.{all_blocks, one_more}
-use Rattle.tool_commands.proofs.outcome.put_positions.Goals as goal
+use Rattle.tool_base.specs.Lines.{spaced}
+use Rattle.tool_base.proofs.Blocks.{all_blocks, one_more}
+use Rattle.tool_base.proofs.report.put_positions.Goals as goal
 
 -- a position behind a space
 abbrev place : ℕ → List ℕ

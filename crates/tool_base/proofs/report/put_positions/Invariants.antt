@@ -1,7 +1,7 @@
 use Rattle.std.proofs.Common.{◌≤◌, take}
 use Rattle.std.specs.Io.KnownBytes.{Appends}
-use Rattle.tool_commands.specs.Outcomes.{spaced}
-use Rattle.tool_commands.proofs.outcome.put_positions.Given as goal
+use Rattle.tool_base.specs.Lines.{spaced}
+use Rattle.tool_base.proofs.report.put_positions.Given as goal
 
 abbrev pub invariant-loop-position : goal.invariant-loop-position
 invariant-loop-position g l = record {

@@ -1,7 +1,7 @@
 use Rattle.std.proofs.Common.{decimal}
 use Rattle.std.specs.Prelude.{codes}
 use Rattle.fec_base.proofs.Cuts.{cut_behind, on_err}
-use Rattle.tool_commands.proofs.outcome.put_position.Goals as goal
+use Rattle.tool_base.proofs.report.put_position.Goals as goal
 
 pub returns-in_err-put_number-clause-cut : goal.returns-in_err-put_number-clause-cut
 returns-in_err-put_number-clause-cut g c =

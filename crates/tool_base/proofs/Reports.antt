@@ -5,7 +5,7 @@ use Rattle.std.specs.Io.KnownBytes.{Appends}
 use Rattle.std.proofs.KnownBytes.{Appends-trans}
 use Rattle.fec_base.specs.Bytes.{AppendsFront}
 use Rattle.fec_base.proofs.Cuts.{cut_behind, cut_longer}
-use Rattle.tool_commands.proofs.Enumerated.{lines_from, lines_front, lines_more}
+use Rattle.tool_base.proofs.Enumerated.{lines_from, lines_front, lines_more}
 
 -- a line that is begun leaves a front of all lines
 pub lines_cut : {A : Type 0} (line : ℕ → A → List ℕ) (held mid now : Option (List ℕ)) (xs : List A)
