@@ -43,7 +43,7 @@ framed 400 1397
 if command -v ip > /dev/null && unshare --map-root-user --net --mount true 2> "$here/why"; then
     EPERFTOOL=$program unshare --map-root-user --net --mount sh demo/multicast.sh
 else
-    echo "There is no 'ip', or no namespace may be made ($(cat "$here/why")): multicast isn't tried, and broadcast alone here."
+    echo "No 'ip' (iproute2), or no namespace may be made ($(cat "$here/why")): multicast isn't tried."
     to=127.255.255.255
     link 256 < "$here/numbers" > "$here/again"
     cmp "$here/numbers" "$here/again"

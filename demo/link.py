@@ -3,8 +3,8 @@
 
     link.py P Q FROM TO..    frames that come in by FROM go out by each TO, and those that come in by a TO by FROM
 
-On the way to each TO a chain of two states of its own loses datagrams of UDP, as `eperftool lose --loss=burst:P:Q` does:
-before each a good state turns bad with a chance of P thousandths, and a bad one good with Q, and a bad one loses it.
+On the way to each TO a chain of two states of its own loses datagrams of UDP, as `eperftool lose --loss=burst:P:Q`
+does: before each a good state turns bad with a chance of P thousandths, and a bad one good with Q; a bad one loses it.
 """
 import random
 import select

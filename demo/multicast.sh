@@ -1,6 +1,6 @@
 #!/bin/sh
-# One sender and two receivers, each in a network namespace of its own, and between them a link that loses one datagram in
-# twenty to each receiver, in runs of ten. The words are README's, as they stand there; then the same by broadcast.
+# One sender and two receivers, each in a network namespace of its own, and between them a link that loses one datagram
+# in twenty on the way to each, in runs of ten. The words are README's, as they stand there; then the same by broadcast.
 #
 #     unshare --map-root-user --net --mount sh demo/multicast.sh
 #
