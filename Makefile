@@ -19,6 +19,10 @@ demo:
 datagrams: build/eperftool
 	@sh demo/datagrams.sh
 
+#   make archive            keeps repair packets of a file apart, and restores the file where its sectors are hurt
+archive: build/eperftool
+	@sh demo/archive.sh
+
 #   make pieces MIB=..      tries demo/pieces.sh, and times it over a file of so many MiB (1024), by one and by four
 pieces: build/eperftool
 	@MIB=$(MIB) tools/pieces.sh
