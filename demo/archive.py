@@ -9,11 +9,11 @@
 FILE.parity is a packet file without its source packets, which are the sectors of FILE, the last one filled up with
 zeros. A line of FILE.sums is a digest, as `b2sum -l 64` gives it: that of the header, and then of each symbol, the
 sectors and behind them the repair packets. A symbol whose digest isn't its line is left out: so a line that was hurt
-costs a symbol and no more. Keep both files elsewhere than FILE. EPERFTOOL is the program (eperftool).
+costs a symbol and no more. A header that was hurt is made again by `protect` of any file of the same length. Keep both
+files elsewhere than FILE. EPERFTOOL is the program (eperftool).
 """
 import contextlib
 import hashlib
-import itertools
 import os
 import subprocess
 import sys
@@ -70,17 +70,11 @@ def symbols(path):
             yield int.from_bytes(identifier, "big"), symbol
 
 
-def doubtful(path, part, lines):
-    """Whether some sector that was restored has another digest than its line, and isn't the sector that was there."""
-    there = itertools.chain(sectors(path), itertools.repeat(b""))
-    return any(line_of(new) != line and new != old for new, old, line in zip(sectors(part), there, lines))
-
-
 def restore(path):
     with open(f"{path}.parity", "rb") as parity, open(f"{path}.sums", "rb") as sums:
         header, (header_line, *lines) = parity.read(HEADER), iter(lambda: sums.read(LINE), b"")
     if line_of(header) != header_line:
-        print(f"the header, the first {HEADER} bytes of {path}.parity, or its digest is hurt", file=sys.stderr)
+        sys.exit(f"archive.py: the first {HEADER} bytes of {path}.parity are hurt, or the first line of {path}.sums")
     k, good = -(-int.from_bytes(header[8:14], "big") // SECTOR), [False] * len(lines)
     part = f"{path}.restored.part"
     with open(part, "wb") as restored:
@@ -95,8 +89,6 @@ def restore(path):
     print(f"sectors {k} hurt {good[:k].count(False)}, repair packets {len(lines) - k} hurt {good[k:].count(False)}")
     if status:
         os.remove(part)
-    elif doubtful(path, part, lines):
-        sys.exit(f"archive.py: {part} has sectors that neither a digest nor {path} bears out")
     else:
         os.replace(part, f"{path}.restored")
     return status
