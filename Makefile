@@ -5,6 +5,8 @@ PREFIX ?= /usr/local
 # Words of a run over no bytes: `build` needs a run that ends with status 0.
 EMPTY_RUN = encode
 
+MIB ?= 1024
+
 #   make help               prints the targets
 help:
 	@sed -n 's/^#   make /make /p' $(firstword $(MAKEFILE_LIST))
@@ -13,9 +15,17 @@ help:
 demo:
 	@sh demo/run.sh
 
-#   make datagrams          sends a file in datagrams over a link that loses some, on this machine, and rebuilds it
+#   make datagrams          sends files and datagrams over links that lose some, to two receivers too, on this machine
 datagrams: build/eperftool
 	@sh demo/datagrams.sh
+
+#   make archive            keeps repair packets of a file apart, and restores the file where its sectors are hurt
+archive: build/eperftool
+	@sh demo/archive.sh
+
+#   make pieces MIB=..      tries demo/pieces.sh, and times it over a file of so many MiB (1024), by one and by four
+pieces: build/eperftool
+	@MIB=$(MIB) tools/pieces.sh
 
 #   make test               the gate: proves every crate, tries the must-fail edits, runs the tests and the program
 test:
@@ -76,4 +86,4 @@ pages: build/eperftool
 faults: build/eperftool build/one_block
 	@python3 tools/faults.py
 
-.PHONY: help demo datagrams test promises trusted chains fuzz pages faults plots build install bench
+.PHONY: help demo datagrams pieces archive test promises trusted chains fuzz pages faults plots build install bench

@@ -1,21 +1,33 @@
 #!/usr/bin/env python3
-"""Carries a packet file in datagrams, one packet each.
+"""Carries a packet file of version 1 in datagrams, one packet each.
 
-    datagrams.py send HOST PORT          reads a packet file, sends its header often, and each packet once
-    datagrams.py receive PORT SECONDS    writes what comes as a packet file, until nothing has come for so long
-    datagrams.py stream COUNT [MOST]     writes a datagram stream: so many datagrams of 0 to MOST (253) bytes, four flows
-    datagrams.py same STREAM STREAM      compares two datagram streams, one datagram after the other
+    datagrams.py send HOST PORT [MBIT]          reads a packet file; sends each packet once, in a mixed order, and the
+                                                header behind every 50, at MBIT (50) million bits a second
+    datagrams.py receive [GROUP:]PORT SECONDS   writes what comes as a packet file, until nothing more has come for so
+                                                long; the first datagram may take as long as it likes
+    datagrams.py stream COUNT [MOST]            writes a datagram stream: so many datagrams of 0 to MOST (253) bytes,
+                                                four flows
+    datagrams.py same STREAM STREAM             compares two datagram streams, one datagram after the other
 
-A header has 26 bytes and begins with OFPK, which no packet's identifier does. Datagrams of another length are
-dropped: they are no packets of this file.
+HOST may be a broadcast address or a multicast group; a receiver joins GROUP. The system's routes choose the interface.
+One port carries one object: packets don't tell whose they are. A header has 26 bytes and begins with OFPK, which no
+packet's identifier does. Datagrams of another length are dropped: they are no packets of this object.
 """
+import contextlib
+import itertools
 import random
 import socket
 import sys
 import time
 
 HEADER = 26
+MAGIC = b"OFPK"
 AGAIN = 50  # the header is sent again behind so many packets
+ON_THE_WAY = 42  # bytes of Ethernet, IP and UDP before a datagram
+ROUTERS = 8  # that a multicast datagram may pass
+BEHIND = 0.01  # seconds that a sender which was kept waiting makes up for; a longer burst would fill the receiver
+SO_RCVBUFFORCE = 33  # Linux: past the system's limit, for who may
+BUFFER = 1 << 25
 
 
 def packet_len(header):
@@ -23,43 +35,69 @@ def packet_len(header):
     return 4 + int.from_bytes(header[14:16], "big")
 
 
-def send(host, port):
-    source, link = sys.stdin.buffer, socket.socket(socket.AF_INET, socket.SOCK_DGRAM)
-    header = source.read(HEADER)
-    sent = 0
-    while packet := source.read(packet_len(header)):
-        if sent % AGAIN == 0:
-            link.sendto(header, (host, port))
-            time.sleep(0.002)  # a pace that the receiver keeps up with
-        link.sendto(packet, (host, port))
-        sent += 1
-    link.sendto(header, (host, port))
-    print(f"sent {sent}", file=sys.stderr)
+def is_header(datagram):
+    return len(datagram) == HEADER and datagram[:4] == MAGIC
 
 
-def receive(port, seconds):
-    sink, link = sys.stdout.buffer, socket.socket(socket.AF_INET, socket.SOCK_DGRAM)
-    link.setsockopt(socket.SOL_SOCKET, socket.SO_RCVBUF, 1 << 22)
-    link.bind(("", port))
+def mixed(file):
+    """The datagrams of a packet file. In a mixed order a run of losses hits many blocks, each a little."""
+    header, size = file[:HEADER], packet_len(file)
+    places = list(range(HEADER, len(file) - size + 1, size))
+    random.Random(1).shuffle(places)
+    for number, place in enumerate(places):
+        if number % AGAIN == 0:
+            yield header
+        yield file[place : place + size]
+    yield header
+
+
+def send(host, port, mbit):
+    file = memoryview(sys.stdin.buffer.read())
+    if not is_header(file[:HEADER]) or file[4] != 1:
+        sys.exit("datagrams.py: standard input is no packet file of version 1")
+    link = socket.socket(socket.AF_INET, socket.SOCK_DGRAM)
+    link.setsockopt(socket.IPPROTO_IP, socket.IP_MULTICAST_TTL, ROUTERS)
+    link.setsockopt(socket.SOL_SOCKET, socket.SO_BROADCAST, 1)
+    due = time.monotonic()
+    for datagram in mixed(file):
+        now = time.monotonic()
+        time.sleep(max(0, due - now))
+        link.sendto(datagram, (host, port))
+        due = max(due, now - BEHIND) + 8 * (len(datagram) + ON_THE_WAY) / (mbit * 1e6)
+    print(f"sent {(len(file) - HEADER) // packet_len(file)}", file=sys.stderr)
+
+
+def arrivals(group, port, seconds):
+    link = socket.socket(socket.AF_INET, socket.SOCK_DGRAM)
+    for option in (socket.SO_RCVBUF, SO_RCVBUFFORCE):
+        with contextlib.suppress(OSError):
+            link.setsockopt(socket.SOL_SOCKET, option, BUFFER)
+    if group:
+        link.setsockopt(socket.SOL_SOCKET, socket.SO_REUSEADDR, 1)
+        link.setsockopt(socket.IPPROTO_IP, socket.IP_ADD_MEMBERSHIP, socket.inet_aton(group) + bytes(4))
+    link.bind((group, port))
+    yield link.recv(1 << 16)
     link.settimeout(seconds)
-    header, waiting, came = None, [], 0
-    try:
+    with contextlib.suppress(TimeoutError):
         while True:
-            datagram = link.recv(1 << 16)
-            if datagram.startswith(b"OFPK") and len(datagram) == HEADER:
-                if header is None:
-                    header = datagram
-                    early = [p for p in waiting if len(p) == packet_len(header)]
-                    sink.write(header + b"".join(early))
-                    came += len(early)
-            elif header is None:
-                waiting.append(datagram)
-            elif len(datagram) == packet_len(header):
+            yield link.recv(1 << 16)
+
+
+def receive(group, port, seconds):
+    coming, early, came = arrivals(group, port, seconds), [], 0
+    for header in coming:
+        if is_header(header):
+            break
+        early.append(header)
+    else:
+        sys.exit("datagrams.py: no header came")
+    # Without a buffer: the decoder gets each packet as it comes, and nothing is left to be written where it ends.
+    with open(1, "wb", buffering=0, closefd=False) as sink, contextlib.suppress(BrokenPipeError):
+        sink.write(header)
+        for datagram in itertools.chain(early, coming):
+            if len(datagram) == packet_len(header) and not is_header(datagram):
                 sink.write(datagram)
-                sink.flush()
                 came += 1
-    except (TimeoutError, BrokenPipeError):
-        pass  # nothing more comes, or the decoder has all it needs
     print(f"came {came}", file=sys.stderr)
 
 
@@ -88,13 +126,15 @@ def same(one, other):
 
 
 if __name__ == "__main__":
-    if sys.argv[1:2] == ["send"] and len(sys.argv) == 4:
-        send(sys.argv[2], int(sys.argv[3]))
-    elif sys.argv[1:2] == ["receive"] and len(sys.argv) == 4:
-        receive(int(sys.argv[2]), float(sys.argv[3]))
-    elif sys.argv[1:2] == ["stream"] and len(sys.argv) in (3, 4):
-        stream(*map(int, sys.argv[2:]))
-    elif sys.argv[1:2] == ["same"] and len(sys.argv) == 4:
-        same(sys.argv[2], sys.argv[3])
+    words = sys.argv[2:]
+    if sys.argv[1:2] == ["send"] and len(words) in (2, 3):
+        send(words[0], int(words[1]), float(words[2]) if words[2:] else 50)
+    elif sys.argv[1:2] == ["receive"] and len(words) == 2:
+        joined, _, number = words[0].rpartition(":")
+        receive(joined, int(number), float(words[1]))
+    elif sys.argv[1:2] == ["stream"] and len(words) in (1, 2):
+        stream(*map(int, words))
+    elif sys.argv[1:2] == ["same"] and len(words) == 2:
+        same(*words)
     else:
         sys.exit(__doc__)

@@ -1,6 +1,6 @@
 #!/bin/sh
-# A sender and a receiver on one machine: a file, and then two streams of datagrams of many lengths, go in datagrams over
-# a link that loses some in runs, and are rebuilt.
+# A sender and receivers on one machine: a file, and then two streams of datagrams of many lengths, go in datagrams over
+# a link that loses some in runs, and are rebuilt; then a file goes to two receivers (multicast.sh).
 # It runs build/eperftool (EPERFTOOL names another program), and wants python3.
 set -eu
 cd "$(dirname "$0")/.."
@@ -13,11 +13,11 @@ trap 'rm -rf "$here"' EXIT
 # link SYMBOL: what stands on standard input goes over the link, and what is rebuilt of it is written. What comes is
 # decoded as it comes, and no more is read once all is known. `lose` loses packets in runs.
 link() {
-    { python3 demo/datagrams.py receive "$port" 5 | "$program" decode --early=yes > "$here/object"; } &
+    { timeout 60 python3 demo/datagrams.py receive "$port" 2 | "$program" decode --early=yes > "$here/object"; } &
     sleep 1
     "$program" encode --symbol="$1" --block=200 |
         "$program" lose --loss=burst:20:100 |
-        python3 demo/datagrams.py send 127.0.0.1 "$port"
+        python3 demo/datagrams.py send "${to:-127.0.0.1}" "$port" 20
     wait
     cat "$here/object"
 }
@@ -39,3 +39,13 @@ echo "The file came through."
 
 framed 1000 253
 framed 400 1397
+
+if command -v ip > /dev/null && unshare --map-root-user --net --mount true 2> "$here/why"; then
+    EPERFTOOL=$program unshare --map-root-user --net --mount sh demo/multicast.sh
+else
+    echo "No 'ip' (iproute2), or no namespace may be made ($(cat "$here/why")): multicast isn't tried."
+    to=127.255.255.255
+    link 256 < "$here/numbers" > "$here/again"
+    cmp "$here/numbers" "$here/again"
+    echo "The file came through by broadcast."
+fi
