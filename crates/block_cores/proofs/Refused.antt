@@ -11,7 +11,7 @@ use Rattle.packet_file.proofs.Readings.{reads_behind}
 use Rattle.packet_intake.specs.Intake.{RefusesPackets}
 use Rattle.packet_intake.specs.declared.refusal.IntakeRefusal.TheVariants as intake
 use Rattle.sparse_rows.specs.Matrix.{Matrix}
-use Rattle.object_file.specs.Receiving.{RefusesOpening}
+use Rattle.object_file.specs.Opening.{RefusesOpening}
 use Rattle.object_file.specs.Told.{HasCodes}
 use Rattle.tool_base.specs.declared.causes.Refusal.{Refusal}
 use Rattle.tool_base.specs.declared.causes.Refusal.TheVariants.{Draws, File, Memory, Watch}

@@ -1,4 +1,4 @@
--- Inside: decoders that take in the packets of a file.
+-- Beside the promises of a run: decoders that take in the packets of a file.
 use Rattle.std.specs.Prelude.{List, ℕ}
 use Rattle.packet_file.specs.Header.{HeaderFields}
 use Rattle.packet_file.specs.Packets.{Packet}

@@ -7,7 +7,8 @@ use Rattle.packet_file.specs.OneReading.Stop.{End}
 use Rattle.packet_file.specs.Packets.{Packet}
 use Rattle.packet_file.specs.Taking.{TakesAtMost}
 use Rattle.sparse_rows.specs.Matrix.{Matrix}
-use Rattle.object_file.specs.Receiving.{AreCores, RefusesOpening}
+use Rattle.object_file.specs.Receiving.{AreCores}
+use Rattle.object_file.specs.Opening.{RefusesOpening}
 use Rattle.object_file.specs.Told.{HasCodes}
 use Rattle.tool_base.specs.declared.causes.Refusal.{Refusal}
 use Rattle.tool_base.specs.declared.causes.Refusal.TheVariants.{Draws, File, Memory, Watch}
@@ -24,15 +25,6 @@ abbrev pub IsTaken : Option ℕ → ℕ → Stream → Stream → HeaderFields �
     → Type 0
 IsTaken draws most input input_now h code packets =
     ReadsCoded draws most input input_now h code packets End
-
--- and the decoders of its blocks took in its packets, so many
-pub record IsTakenFile (draws : Option ℕ) (most : ℕ) (input input_now : Stream)
-    (taken : TakenFile) : Type 0 where
-  pub code : ℕ → Matrix
-  pub packets : List Packet
-  pub file : IsTaken draws most input input_now taken.header code packets
-  pub cores : AreCores taken.header code packets taken.cores
-  pub counted : taken.packets ≡ length packets
 
 -- memory lacked before a byte behind the header was taken, or once the last packet was taken
 abbrev pub LacksMemory : Option ℕ → ℕ → Stream → Stream → Type 0

@@ -1,7 +1,8 @@
 // A packet file, taken to its end.
 ghost use Rattle.std.specs.Prelude.{◌≡◌, ◌≢◌, IfErr, IfOk};
 ghost use Rattle.fec_base.specs.Outside.{stream};
-ghost use Rattle.block_cores.specs.Taken.{IsTakenFile, RefusesFile};
+ghost use Rattle.block_cores.specs.Taken.{RefusesFile};
+ghost use Rattle.block_cores.specs.TakenCores.{IsTakenFile};
 ghost use Rattle.packet_intake.specs.declared.refusal.IntakeRefusal.TheVariants.{File, Taker};
 
 use crate::BlockCores;

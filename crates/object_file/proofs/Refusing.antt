@@ -7,7 +7,7 @@ use Rattle.packet_file.specs.OneReading.{stop_by}
 use Rattle.packet_file.proofs.Readings.{stops_since}
 use Rattle.object_file.specs.Reception.{FailsAtPackets, RefusesDecode}
 use Rattle.fec_base.specs.Outside.{Hearing, Stream, stream}
-use Rattle.object_file.specs.Receiving.{RefusesOpening}
+use Rattle.object_file.specs.Opening.{RefusesOpening}
 use Rattle.object_file.specs.Told.{Opens}
 use Rattle.tool_base.specs.declared.causes.Refusal.{Refusal}
 use Rattle.tool_base.specs.declared.causes.Refusal.TheVariants.{Memory, File, Draws, Watch}

@@ -12,3 +12,4 @@ pub mod Object
 pub mod Staged
 pub mod Receiving
 pub mod Takers
+pub mod Opening

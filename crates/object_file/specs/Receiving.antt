@@ -85,12 +85,3 @@ pub record IsReceived (draws : Option ℕ) (early : Bool) (most : ℕ)
   pub over : IsOver early left_now h code packets
   pub cores : AreCores h code packets decoders
   pub counted : count ≡ length packets
-
--- a file isn't opened: the input failed, its bytes are no header, or a block's matrix takes too
--- many draws
-abbrev pub RefusesOpening : Option ℕ → Stream → Stream → Refusal → Type 0
-RefusesOpening draws input input_now Memory = ⊤
-RefusesOpening draws input input_now (File fault) = LacksHeader input input_now (stop_by fault)
-RefusesOpening draws input input_now (Draws b) = (h : HeaderFields) × IsHeader h
-    × Consumes input.bytes input_now.bytes (header_bytes h) × IsFirstOver h draws b
-RefusesOpening draws input input_now Watch = ⊥

@@ -6,7 +6,8 @@ ghost use Rattle.packet_file.specs.Taking.{TakesAtMost};
 ghost use Rattle.object_file.specs.BuiltCodes.{AreBlockCodes};
 ghost use Rattle.object_file.specs.Reception.{RefusesDecode};
 ghost use Rattle.fec_base.specs.Outside.{hearing, stream};
-ghost use Rattle.object_file.specs.Receiving.{IsReceived, RefusesOpening};
+ghost use Rattle.object_file.specs.Receiving.{IsReceived};
+ghost use Rattle.object_file.specs.Opening.{RefusesOpening};
 ghost use Rattle.object_file.specs.Takers.{FailsWithin, HasAll, IsOfFile, TakesIn, refused_by};
 
 use crate::block_codes;

@@ -4,3 +4,4 @@ pub mod Surveys
 pub mod Laws
 pub mod Pieces
 pub mod ReadOff
+pub mod DecoderSurveys

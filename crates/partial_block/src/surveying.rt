@@ -1,6 +1,7 @@
 // What the arrivals at a core save of its block.
 ghost use Rattle.std.specs.Prelude.{IfOk};
-ghost use Rattle.partial_block.specs.Surveys.{Holds, Surveys};
+ghost use Rattle.partial_block.specs.Surveys.{Holds};
+ghost use Rattle.partial_block.specs.DecoderSurveys.{Surveys};
 
 use crate::Survey;
 use crate::laws::what_is_read_off_is_saved;

@@ -1,7 +1,8 @@
 -- What a `salvage` does, by how its file was taken and what was written.
 use Rattle.std.proofs.Common.{List, Option, inl, inr, length, refl, slice_index_or, subst, ℕ, ⊎_elim}
 use Rattle.std.proofs.Common.{ap, arith, ◌<◌, ◌∙◌}
-use Rattle.block_cores.specs.Taken.{IsTakenFile, RefusesFile}
+use Rattle.block_cores.specs.Taken.{RefusesFile}
+use Rattle.block_cores.specs.TakenCores.{IsTakenFile}
 use Rattle.block_cores.specs.declared.taking.TakenFile.{TakenFile}
 use Rattle.fec_base.specs.Outside.{Stream}
 use Rattle.object_file.specs.Codes.{count_at}

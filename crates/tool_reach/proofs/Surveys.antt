@@ -3,7 +3,8 @@ use Rattle.std.proofs.Common.{All, List, [], arith, eq-or-lt_of_le, get_or, leng
 use Rattle.std.proofs.Common.{refl, slice_index_or, subst, subst₂, sym, ℕ, ⊎_elim, ◌++◌, ◌<◌, ◌∷◌}
 use Rattle.std.proofs.Common.{◌≡◌, ◌∙◌}
 use Rattle.std.proofs.lemmas.List.{get_or_append_left, get_or_push}
-use Rattle.partial_block.specs.Surveys.{Holds, Surveys}
+use Rattle.partial_block.specs.Surveys.{Holds}
+use Rattle.partial_block.specs.DecoderSurveys.{Surveys}
 use Rattle.partial_block.specs.declared.outcome.Survey.{Survey}
 use Rattle.partial_block.specs.declared.outcome.Survey.TheVariants as survey
 use Rattle.peeling.specs.Decoder.{Decoder}

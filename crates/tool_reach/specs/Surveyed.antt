@@ -2,7 +2,8 @@
 use Rattle.std.specs.Prelude.{List, length, slice_index_or, ℕ, ⊤, ◌<◌, ◌≡◌}
 use Rattle.packet_file.specs.Header.{HeaderFields}
 use Rattle.partial_block.specs.Saved.{HasSources}
-use Rattle.partial_block.specs.Surveys.{Holds, Surveys}
+use Rattle.partial_block.specs.Surveys.{Holds}
+use Rattle.partial_block.specs.DecoderSurveys.{Surveys}
 use Rattle.partial_block.specs.declared.outcome.Survey.{Survey}
 use Rattle.peeling.specs.Decoder.{Decoder}
 use Rattle.tool_base.specs.Ending.{Due}
