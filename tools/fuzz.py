@@ -107,7 +107,7 @@ def random_perf(chance):
         return words, given
     choices = {
         "symbol": chance.choice([1, 1, 2, 33, 257]), "loss": random_loss(chance), "runs": chance.randint(1, 4),
-        "order": chance.choice(["sent", "random"]), "run_seed": chance.choice([1, chance.randint(1, 2147483646)]),
+        "order": chance.choice(["sent", "random"]), "threshold": chance.choice(["yes", "no"]), "run_seed": chance.choice([1, chance.randint(1, 2147483646)]),
     }
     for name, value in choices.items():
         if chance.random() < 0.7:
@@ -235,6 +235,8 @@ def check_file(chance, file, seen):
         options.append(f"--draws={limit}")
     if symbols_of(file) <= MOST_DECODED:
         check(options, file, expected(reading.decode, file, limit, early, most), seen)
+        options = ["salvage", *(word for word in options[1:] if not word.startswith("--early"))]
+        check(options, file, expected(reading.salvage, file, limit, most), seen)
     most, loss = chance.randint(0, 60), random_loss(chance)
     start = chance.choice([1, chance.randint(1, 2147483646)])
     options = [f"--loss={loss}", f"--seed={start}", f"--packets={most}"]

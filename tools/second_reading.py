@@ -213,8 +213,8 @@ def encode(header, data, limit):
 # ---- what arrivals determine
 
 
-def eliminate(rows, sums, unknowns, size):
-    """None where nothing solves the rows; else the symbols of the unknowns, or the first null set."""
+def reduced(rows, sums, unknowns):
+    """The rows by the unknown that each gives, the unknowns that no row gives, and whether a sum is left over."""
     pivots, left = {}, [(set(row), total) for row, total in zip(rows, sums)]
     for unknown in unknowns:
         at = next((i for i, (row, _) in enumerate(left) if unknown in row), None)
@@ -224,12 +224,22 @@ def eliminate(rows, sums, unknowns, size):
         left = [(r ^ row, xor(t, total)) if unknown in r else (r, t) for r, t in left]
         pivots = {p: ((r ^ row), xor(t, total)) if unknown in r else (r, t) for p, (r, t) in pivots.items()}
         pivots[unknown] = (row, total)
-    if any(any(total) for _, total in left):
+    return pivots, [unknown for unknown in unknowns if unknown not in pivots], any(any(total) for _, total in left)
+
+
+def null_set(pivots, last):
+    """The one that ends at this unknown and has no other one that no row gives."""
+    return sorted([last] + [p for p, (row, _) in pivots.items() if last in row])
+
+
+def eliminate(rows, sums, unknowns):
+    """None where nothing solves the rows; else the symbols of the unknowns, or the first null set."""
+    pivots, free, clash = reduced(rows, sums, unknowns)
+    if clash:
         return None, None
-    free = [unknown for unknown in unknowns if unknown not in pivots]
     if not free:
         return {unknown: pivots[unknown][1] for unknown in unknowns}, None
-    return None, sorted([free[0]] + [p for p, (row, _) in pivots.items() if free[0] in row])
+    return None, null_set(pivots, free[0])
 
 
 def closure(rows, known):
@@ -240,12 +250,13 @@ def closure(rows, known):
     return known
 
 
-def outcome(rows, k, n, arrivals, size):
-    """The words of the report, and the source or None."""
+def residue(rows, n, arrivals, size):
+    """What came by position, the other positions, and the rows with these alone and the sums of the others; or None
+    where one position came with two symbols."""
     symbols = {}
     for position, symbol in arrivals:
         if symbols.setdefault(position, symbol) != symbol:
-            return " contradicted\n", None
+            return None
     unknowns = [c for c in range(n) if c not in symbols]
     open_rows, sums = [], []
     for row in rows:
@@ -255,7 +266,15 @@ def outcome(rows, k, n, arrivals, size):
                 total = xor(total, symbols[column])
         open_rows.append([c for c in row if c not in symbols])
         sums.append(total)
-    values, null = eliminate(open_rows, sums, unknowns, size)
+    return symbols, unknowns, open_rows, sums
+
+
+def outcome(rows, k, n, arrivals, size):
+    """The words of the report, and the source or None."""
+    if not (rest := residue(rows, n, arrivals, size)):
+        return " contradicted\n", None
+    symbols, unknowns, open_rows, sums = rest
+    values, null = eliminate(open_rows, sums, unknowns)
     if null:
         return " undetermined" + "".join(f" {c}" for c in null) + "\n", None
     if values is None:
@@ -318,6 +337,43 @@ def decode(data, limit, early, most):
     if None in sources:
         return 8, b"", report
     return 0, b"".join(sources)[: header.length], report
+
+
+def saved(rows, k, n, arrivals, size):
+    """The words of the report, the source with zeros in the place of what is open, and how many symbols are open."""
+    if not (rest := residue(rows, n, arrivals, size)):
+        return " contradicted\n", None, 0
+    symbols, unknowns, open_rows, sums = rest
+    pivots, free, clash = reduced(open_rows, sums, unknowns)
+    if clash:
+        return " contradicted\n", None, 0
+    words = [null_set(pivots, last) for last in free]
+    through = {e: next((word for word in words if e in word), None) for e in range(k)}
+    source = b"".join(
+        bytes(size) if through[e] else symbols[e] if e in symbols else pivots[e][1] for e in range(k)
+    )
+    lines = [f"symbol {e} through {' '.join(map(str, word))}\n" for e, word in through.items() if word]
+    if not lines:
+        return " whole\n", source, 0
+    return f" partial {k - len(lines)} of {k}\n" + "".join(lines), source, len(lines)
+
+
+def salvage(data, limit, most):
+    header = read_header(data)
+    codes = header.codes(limit)
+    count, arrivals = 0, [[] for _ in codes]
+    for _, block, position, _, symbol in packets(data, header, most):
+        arrivals[block].append((position, symbol))
+        count += 1
+    report, sources, left = "", [], 0
+    for block, (rows, k, n, came) in enumerate(zip(codes, header.sizes, header.counts, arrivals)):
+        words, source, lines = saved(rows, k, n, came, header.symbol)
+        report, left = report + f"block {block}{words}", left + lines
+        sources.append(source)
+    report += f"packets {count}\n"
+    if None in sources:
+        return 9, b"", report
+    return 8 if left else 0, b"".join(sources)[: header.length], report
 
 
 def keeper(loss, draws):
@@ -451,7 +507,19 @@ def needed(rows, k, kept):
     return least if least <= len(kept) else None
 
 
-def perf(codec, symbol, n1, seed, k, n, limit=None, loss="none", order="random", runs=1, run_seed=1):
+def determining(rows, n, kept):
+    """How many of the packets, in order, leave no null word, or None. More packets never bring one back."""
+    def open_at(count):
+        rest = residue(rows, n, [(position, b"\0") for position in kept[:count]], 1)
+        return bool(reduced(rest[2], rest[3], rest[1])[1])
+
+    least = bisect.bisect_left(range(len(kept) + 1), True, key=lambda count: not open_at(count))
+    return least if least <= len(kept) else None
+
+
+def perf(
+    codec, symbol, n1, seed, k, n, limit=None, loss="none", order="random", runs=1, run_seed=1, threshold="no"
+):
     """`seed` is the width where the codec is a grid, and `limit` None where the formula gives it."""
     if n * symbol > 268435456:
         raise Ends(7, "fault: limit block-bytes\n")
@@ -471,6 +539,10 @@ def perf(codec, symbol, n1, seed, k, n, limit=None, loss="none", order="random",
         least = needed(rows, k, kept)
         verdict = outcome(rows, k, n, [(position, b"\0") for position in kept], 1)[0].split()[0]
         tally[verdict] += 1
-        text += f"run {run} kept {len(kept)} needed {'none' if least is None else least} {verdict}\n"
+        text += f"run {run} kept {len(kept)} needed {'none' if least is None else least} {verdict}"
+        if threshold == "yes":
+            enough = determining(rows, n, kept)
+            text += f" least {'none' if enough is None else enough}"
+        text += "\n"
     text += f"runs {runs}" + "".join(f" {verdict} {count}" for verdict, count in tally.items()) + "\n"
     return 0, text.encode(), ""
