@@ -203,6 +203,27 @@ const PACKETS: [(usize, usize); 7] = [
     (73, 8),
 ];
 
+// What `show` writes of it, a line each.
+const LINES: [&str; 8] = [
+    "codec 2d width 2 length 5 symbol 2 block 3 max 7 blocks 1\n",
+    "packet 0 block 0 symbol 0 bytes 0102\n",
+    "packet 1 block 0 symbol 1 bytes 0408\n",
+    "packet 2 block 0 symbol 2 bytes 10\n",
+    "packet 3 block 0 symbol 3 bytes 050a\n",
+    "packet 4 block 0 symbol 4 bytes 1000\n",
+    "packet 5 block 0 symbol 5 bytes 1102\n",
+    "packet 6 block 0 symbol 6 bytes 0408\n",
+];
+
+// The lines of the header and of the first packets.
+fn shown(alloc: Global, packets: usize) -> Result<Vec<u8>, Fail> {
+    let mut text = Vec::new(alloc);
+    for line in LINES.iter().take(packets.min(7) + 1) {
+        text.extend_from_slice(line.as_bytes())?;
+    }
+    Ok(text)
+}
+
 // The file ends so many bytes behind the start of a packet, or the input fails there: the packets
 // before were passed on.
 fn check_within(
@@ -223,6 +244,10 @@ fn check_within(
         check_left(rt, &left, Status::Malformed, before, report.as_bytes());
         check_failing_input(rt, alloc, &[word], &MEASURED, start + have, chunk, before)?;
     }
+    let lines = shown(alloc, packet)?;
+    let left = run_in(alloc, &["show"], cut, ample(chunk))?;
+    check_left(rt, &left, Status::Malformed, &lines, report.as_bytes());
+    check_failing_input(rt, alloc, &["show"], &MEASURED, start + have, chunk, &lines)?;
     let left = run_in(alloc, &["decode"], cut, ample(chunk))?;
     check_left(rt, &left, Status::Malformed, &[], report.as_bytes());
     check_failing_input(rt, alloc, &["decode"], &MEASURED, start + have, chunk, &[])
@@ -238,6 +263,23 @@ fn files_of_version_2_cut_at_each_byte_or_failing_there(rt: HostRuntime) -> Resu
                 check_within(&rt, rt.alloc(), chunk, packet, *start, have)?;
             }
         }
+    }
+    Ok(())
+}
+
+#[test]
+fn outputs_and_reports_over_version_2_that_fail_at_each_byte(rt: HostRuntime) -> Result<(), Fail> {
+    let alloc = rt.alloc();
+    let (decode, lose) = (["decode"], ["lose"]);
+    let (peeled, kept) = ("block 0 peeled\npackets 7\n", "read 7 kept 7\n");
+    let lines = shown(alloc, 7)?;
+    for chunk in [1usize, 7] {
+        assert!(rt; 1 <= chunk);
+        check_outputs(&rt, alloc, &decode, &MEASURED, &OBJECT, chunk)?;
+        check_reports(&rt, alloc, &decode, &MEASURED, &OBJECT, peeled, chunk)?;
+        check_outputs(&rt, alloc, &lose, &MEASURED, &MEASURED, chunk)?;
+        check_reports(&rt, alloc, &lose, &MEASURED, &MEASURED, kept, chunk)?;
+        check_outputs(&rt, alloc, &["show"], &MEASURED, &lines, chunk)?;
     }
     Ok(())
 }
