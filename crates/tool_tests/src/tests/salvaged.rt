@@ -95,19 +95,29 @@ fn the_limits_of_a_salvage(rt: HostRuntime) -> Result<(), Fail> {
 
 const PADDED: [&str; 4] = ["encode", "--symbol=4", "--block=3", "--max-n=7"];
 
+// Its header.
+const PADDED_HEADER: [u8; 26] =
+    *b"OFPK\x01\x03\0\0\0\0\0\0\0\x0a\0\x04\x01\0\0\x30\0\x07\0\0\0\x01";
+
+// The packet file of ten bytes in three source symbols.
+fn padded_file(rt: &impl Abort, alloc: Global) -> Result<Vec<u8>, Fail> {
+    let left = run_over(alloc, &PADDED, b"0123456789")?;
+    assert!(rt; left.status == Status::Done);
+    Ok(Vec::from_slice(alloc, left.output.bytes())?)
+}
+
 // The last symbol is cut to the object's length, whether it is determined or not.
 #[test]
 fn the_last_symbol_is_cut(rt: HostRuntime) -> Result<(), Fail> {
     let alloc = rt.alloc();
-    let left = run_over(alloc, &PADDED, b"0123456789")?;
-    let file = left.output.bytes();
+    let file = padded_file(&rt, alloc)?;
     assert!(rt; file.len() == 82);
     let whole = "block 0 whole\npackets 7\n";
     check(
         &rt,
         alloc,
         &["salvage"],
-        file,
+        &file,
         Status::Done,
         b"0123456789",
         whole,
@@ -119,7 +129,7 @@ fn the_last_symbol_is_cut(rt: HostRuntime) -> Result<(), Fail> {
         &rt,
         alloc,
         &["salvage"],
-        &file[..26],
+        &PADDED_HEADER,
         partial,
         &[0; 10],
         open,
