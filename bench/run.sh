@@ -58,6 +58,7 @@ decode packets
 echo '  its packet file of 96 MiB'
 alone packets lose --loss=even:200
 alone packets show
+alone packets upgrade
 echo '  a fifth of the packets lost'
 lose --loss=even:200 --seed=2
 decode some
